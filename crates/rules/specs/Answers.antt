@@ -1,0 +1,107 @@
+-- What each answer says in document 01's numbers: the refusal's number and row, the place, and the sizes.
+-- An accepted check and a success have refusal number 0 and row 0.
+use Prim.Native.Nat.{ℕ}
+use mathlib.Core.Bool.{Bool, true, false}
+use mathlib.Core.List.{List, []}
+use Rattle.rules.specs.Table.{xmlUri, xmlnsUri, xmlPrefix, xmlnsPrefix}
+use Rattle.rules.specs.declared.Row.{Row}
+use Rattle.rules.specs.declared.Place.{Place}
+use Rattle.rules.specs.declared.Refusal.{Refusal}
+use Rattle.rules.specs.declared.Checked.{Checked}
+use Rattle.rules.specs.declared.Located.{Located}
+use Rattle.rules.specs.declared.Tested.{Tested}
+use Rattle.rules.specs.declared.InScope.{InScope}
+use Rattle.rules.specs.declared.Normalized.{Normalized}
+
+-- A refusal and its row, as the host sees them.
+pub record Number : Type 0 where
+  pub number : ℕ
+  pub row : ℕ
+
+unfoldable pub numberOf : Refusal → Number
+numberOf Refusal.Size = record { number = 1; row = 0 }
+numberOf (Refusal.Structure r) = record { number = 2; row = r .0 }
+numberOf (Refusal.Fields r) = record { number = 3; row = r .0 }
+numberOf (Refusal.Names r) = record { number = 4; row = r .0 }
+numberOf (Refusal.Namespace r) = record { number = 5; row = r .0 }
+numberOf (Refusal.Declaration r) = record { number = 6; row = r .0 }
+numberOf (Refusal.Double r) = record { number = 7; row = r .0 }
+numberOf Refusal.NoSuchRow = record { number = 8; row = 0 }
+numberOf (Refusal.Level1 r) = record { number = 9; row = r .0 }
+numberOf Refusal.RowRoom = record { number = 10; row = 0 }
+numberOf Refusal.PoolRoom = record { number = 11; row = 0 }
+
+abbrev pub notRefused : Number
+notRefused = record { number = 0; row = 0 }
+
+unfoldable pub checkNumber : Checked → Number
+checkNumber Checked.Accepted = notRefused
+checkNumber (Checked.Refused x) = numberOf x
+
+-- The place of nothing, and of a refusal.
+abbrev pub noPlace : Place
+noPlace = record { offset = record { 0 = 0 }; length = 0 }
+
+unfoldable pub locatedNumber : Located → Number
+locatedNumber (Located.At p) = notRefused
+locatedNumber Located.Nothing = notRefused
+locatedNumber (Located.Refused x) = numberOf x
+
+unfoldable pub locatedPlace : Located → Place
+locatedPlace (Located.At p) = p
+locatedPlace Located.Nothing = noPlace
+locatedPlace (Located.Refused x) = noPlace
+
+unfoldable pub testedNumber : Tested → Number
+testedNumber Tested.Yes = notRefused
+testedNumber Tested.No = notRefused
+testedNumber (Tested.Refused x) = numberOf x
+
+unfoldable pub testedYes : Tested → Bool
+testedYes Tested.Yes = true
+testedYes Tested.No = false
+testedYes (Tested.Refused x) = false
+
+unfoldable pub inScopeNumber : InScope → Number
+inScopeNumber (InScope.At p) = notRefused
+inScopeNumber InScope.Xml = notRefused
+inScopeNumber InScope.Xmlns = notRefused
+inScopeNumber InScope.Nothing = notRefused
+inScopeNumber (InScope.Refused x) = numberOf x
+
+unfoldable pub inScopePlace : InScope → Place
+inScopePlace (InScope.At p) = p
+inScopePlace InScope.Xml = noPlace
+inScopePlace InScope.Xmlns = noPlace
+inScopePlace InScope.Nothing = noPlace
+inScopePlace (InScope.Refused x) = noPlace
+
+-- The URI that a built-in answer of the in-scope URI lookup stands for.
+unfoldable pub builtInUri : InScope → List ℕ
+builtInUri (InScope.At p) = []
+builtInUri InScope.Xml = xmlUri
+builtInUri InScope.Xmlns = xmlnsUri
+builtInUri InScope.Nothing = []
+builtInUri (InScope.Refused x) = []
+
+-- The prefix that a built-in answer of the in-scope prefix lookup stands for.
+unfoldable pub builtInPrefix : InScope → List ℕ
+builtInPrefix (InScope.At p) = []
+builtInPrefix InScope.Xml = xmlPrefix
+builtInPrefix InScope.Xmlns = xmlnsPrefix
+builtInPrefix InScope.Nothing = []
+builtInPrefix (InScope.Refused x) = []
+
+unfoldable pub normalizedNumber : Normalized → Number
+normalizedNumber (Normalized.Done rows bytes) = notRefused
+normalizedNumber (Normalized.Refused x) = numberOf x
+
+-- The result's row count; a refusal answers 0.
+unfoldable pub normalizedRows : Normalized → ℕ
+normalizedRows (Normalized.Done rows bytes) = rows
+normalizedRows (Normalized.Refused x) = 0
+
+-- The result's pool length; a refusal answers 0.
+unfoldable pub normalizedBytes : Normalized → ℕ
+normalizedBytes (Normalized.Done rows bytes) = bytes
+normalizedBytes (Normalized.Refused x) = 0

@@ -1,0 +1,129 @@
+-- Document 01, "Rehearsal list": the marked cases, and one case for each of "Easy to get wrong" that they leave out. Each is
+-- an input, the sizes of the two outputs, and the whole outcome.
+use Prim.Native.Nat.{ℕ}
+use mathlib.Core.Bool.{Bool, true, _&&_}
+use mathlib.Core.List.{List, [], _∷_, _++_}
+use lib.ListN.{replicate}
+use lib.Dec.{eqb}
+use Rattle.rules.specs.Lists.{allOf, ascii, sameBytes}
+use Rattle.rules.specs.Table.{NONE}
+use Rattle.rules.specs.Answers.{Number, normalizedNumber, normalizedRows, normalizedBytes}
+use Rattle.rules.specs.Normalization.{Outcome, normalized}
+
+pub record Case : Type 0 where
+  pub table : List ℕ
+  pub pool : List ℕ
+  pub tableSize : ℕ
+  pub poolSize : ℕ
+  -- the refusal's number and row, the row count and the pool length
+  pub answer : List ℕ
+  pub outTable : List ℕ
+  pub outPool : List ℕ
+
+-- An outcome's answer as numbers.
+unfoldable pub answerNumbers : Outcome → List ℕ
+answerNumbers o =
+    normalizedNumber (o .answer) .number ∷ normalizedNumber (o .answer) .row ∷ normalizedRows (o .answer) ∷ normalizedBytes (o .answer) ∷ []
+
+unfoldable pub gives : Case → Outcome → Bool
+gives c o = sameBytes (answerNumbers o) (c .answer) && sameBytes (o .table) (c .outTable) && sameBytes (o .pool) (c .outPool)
+
+unfoldable pub passes : Case → Bool
+passes c = gives c (normalized (c .table) (c .pool) (c .tableSize) (c .poolSize))
+
+-- A row: type, parent, and the offset and length of prefix, local name, URI and value.
+abbrev row : ℕ → ℕ → ℕ × ℕ → ℕ × ℕ → ℕ × ℕ → ℕ × ℕ → List ℕ
+row type parent prefix local uri value =
+    type ∷ parent ∷ prefix .0 ∷ prefix .1 ∷ local .0 ∷ local .1 ∷ uri .0 ∷ uri .1 ∷ value .0 ∷ value .1 ∷ []
+
+-- An element and a namespace URI that is not declared.
+abbrev exampleA : List ℕ
+exampleA = row 1 NONE (0, 0) (0, 1) (1, 1) (0, 0)
+
+-- An attribute with a URI and no prefix.
+abbrev exampleB : List ℕ
+exampleB = row 1 NONE (0, 0) (0, 1) (0, 0) (0, 0) ++ row 2 0 (0, 0) (2, 1) (1, 1) (0, 0)
+
+abbrev exampleB′ : List ℕ
+exampleB′ = row 1 NONE (0, 0) (0, 1) (0, 0) (0, 0) ++ row 2 0 (3, 3) (2, 1) (1, 1) (0, 0) ++ row 13 0 (0, 0) (3, 3) (0, 0) (1, 1)
+
+-- The names of document 001's two trees: root, parent, ns, bar, child1, child2 and the two URIs.
+abbrev names001 : List ℕ
+names001 = ascii "rootparentnsbarchild1child2http://www.example.org/ns1http://www.example.org/ns2"
+
+-- 001, B.1.1: root, parent with xmlns:ns and xmlns:bar, ns:child1 with its xmlns:ns, and ns:child2.
+abbrev tree1 : List ℕ
+tree1 =
+    row 1 NONE (0, 0) (0, 4) (0, 0) (0, 0) ++ row 1 0 (0, 0) (4, 6) (0, 0) (0, 0) ++ row 13 1 (0, 0) (10, 2) (0, 0) (27, 26)
+    ++ row 13 1 (0, 0) (12, 3) (0, 0) (53, 26) ++ row 1 1 (10, 2) (15, 6) (53, 26) (0, 0)
+    ++ row 13 4 (0, 0) (10, 2) (0, 0) (53, 26) ++ row 1 1 (10, 2) (21, 6) (53, 26) (0, 0)
+
+-- 001, B.1.2: root, ns:child1, renamed to the second URI, with xmlns:ns of the first, and ns:child2 below it.
+abbrev tree2 : ℕ × ℕ → List ℕ
+tree2 value =
+    row 1 NONE (0, 0) (0, 4) (0, 0) (0, 0) ++ row 1 0 (10, 2) (15, 6) (53, 26) (0, 0) ++ row 13 1 (0, 0) (10, 2) (0, 0) value
+    ++ row 1 1 (10, 2) (21, 6) (27, 26) (0, 0)
+
+-- M9: under an element in U with xmlns="U", an element without URI.
+abbrev exampleM9 : List ℕ
+exampleM9 =
+    row 1 NONE (0, 0) (0, 1) (1, 1) (0, 0) ++ row 13 0 (0, 0) (0, 0) (0, 0) (1, 1) ++ row 1 0 (0, 0) (2, 1) (0, 0) (0, 0)
+
+-- Two elements, p declared as U above and as V below; an attribute of the lower one with URI U and no prefix, or a new one.
+abbrev rebound : ℕ × ℕ → List ℕ
+rebound prefix =
+    row 1 NONE (0, 0) (0, 1) (0, 0) (0, 0) ++ row 13 0 (0, 0) (2, 1) (0, 0) (3, 1) ++ row 1 0 (0, 0) (0, 1) (0, 0) (0, 0)
+    ++ row 13 2 (0, 0) (2, 1) (0, 0) (4, 1) ++ row 2 2 prefix (1, 1) (3, 1) (0, 0)
+
+-- An element in U with xmlns="U", and an attribute in U without a prefix, or a new one.
+abbrev defaulted : ℕ × ℕ → List ℕ
+defaulted prefix =
+    row 1 NONE (0, 0) (0, 1) (3, 1) (0, 0) ++ row 13 0 (0, 0) (0, 0) (0, 0) (3, 1) ++ row 2 0 prefix (1, 1) (3, 1) (0, 0)
+
+-- An element p:a in U with xmlns:p="U", and an attribute p:b in V, or with a new prefix.
+abbrev conflicting : ℕ × ℕ → List ℕ
+conflicting prefix =
+    row 1 NONE (2, 1) (0, 1) (3, 1) (0, 0) ++ row 13 0 (0, 0) (2, 1) (0, 0) (3, 1) ++ row 2 0 prefix (1, 1) (4, 1) (0, 0)
+
+-- The names of the three above: a, b, p, U, V.
+abbrev namesabp : List ℕ
+namesabp = ascii "abpUV"
+
+unfoldable pub cases : List Case
+cases =
+    -- M1: A
+    record { table = exampleA; pool = ascii "aU"; tableSize = 20; poolSize = 2; answer = 0 ∷ 0 ∷ 2 ∷ 2 ∷ []; outTable = exampleA ++ row 13 0 (0, 0) (0, 0) (0, 0) (1, 1); outPool = ascii "aU" }
+    -- M2: B, with room left over
+    ∷ record { table = exampleB; pool = ascii "aUb"; tableSize = 37; poolSize = 8; answer = 0 ∷ 0 ∷ 3 ∷ 6 ∷ []; outTable = exampleB′ ++ replicate 7 0; outPool = ascii "aUbNS1" ++ replicate 2 0 }
+    -- M3: an empty table
+    ∷ record { table = []; pool = []; tableSize = 10; poolSize = 2; answer = 0 ∷ 0 ∷ 0 ∷ 0 ∷ []; outTable = replicate 10 0; outPool = replicate 2 0 }
+    -- M4: 11 words
+    ∷ record { table = exampleA ++ 0 ∷ []; pool = ascii "aU"; tableSize = 20; poolSize = 2; answer = 1 ∷ 0 ∷ 0 ∷ 0 ∷ []; outTable = replicate 20 0; outPool = replicate 2 0 }
+    -- M5: A with output for one row
+    ∷ record { table = exampleA; pool = ascii "aU"; tableSize = 10; poolSize = 2; answer = 10 ∷ 0 ∷ 0 ∷ 0 ∷ []; outTable = replicate 10 0; outPool = replicate 2 0 }
+    -- M6: B with a 5-byte output pool, and with 6 bytes
+    ∷ record { table = exampleB; pool = ascii "aUb"; tableSize = 30; poolSize = 5; answer = 11 ∷ 0 ∷ 0 ∷ 0 ∷ []; outTable = replicate 30 0; outPool = replicate 5 0 }
+    ∷ record { table = exampleB; pool = ascii "aUb"; tableSize = 30; poolSize = 6; answer = 0 ∷ 0 ∷ 3 ∷ 6 ∷ []; outTable = exampleB′; outPool = ascii "aUbNS1" }
+    -- M7: 001's child2 gets its own xmlns:ns
+    ∷ record { table = tree1; pool = names001; tableSize = 80; poolSize = 79; answer = 0 ∷ 0 ∷ 8 ∷ 79 ∷ []; outTable = tree1 ++ row 13 6 (0, 0) (10, 2) (0, 0) (53, 26); outPool = names001 }
+    -- M8: 001's child1 declaration is changed, child2 gets one
+    ∷ record { table = tree2 (27, 26); pool = names001; tableSize = 50; poolSize = 79; answer = 0 ∷ 0 ∷ 5 ∷ 79 ∷ []; outTable = tree2 (53, 26) ++ row 13 3 (0, 0) (10, 2) (0, 0) (27, 26); outPool = names001 }
+    -- M9: the element without URI gets xmlns=""
+    ∷ record { table = exampleM9; pool = ascii "aUb"; tableSize = 40; poolSize = 3; answer = 0 ∷ 0 ∷ 4 ∷ 3 ∷ []; outTable = exampleM9 ++ row 13 2 (0, 0) (0, 0) (0, 0) (0, 0); outPool = ascii "aUb" }
+    -- M10: an attribute with XML-URI and no prefix gets xml
+    ∷ record { table = row 1 NONE (0, 0) (0, 1) (0, 0) (0, 0) ++ row 2 0 (0, 0) (1, 1) (2, 36) (0, 0); pool = ascii "abhttp://www.w3.org/XML/1998/namespace"; tableSize = 20; poolSize = 41; answer = 0 ∷ 0 ∷ 2 ∷ 41 ∷ []; outTable = row 1 NONE (0, 0) (0, 1) (0, 0) (0, 0) ++ row 2 0 (38, 3) (1, 1) (2, 36) (0, 0); outPool = ascii "abhttp://www.w3.org/XML/1998/namespacexml" }
+    -- M11: xmlns:p=""
+    ∷ record { table = row 1 NONE (0, 0) (0, 1) (0, 0) (0, 0) ++ row 13 0 (0, 0) (1, 1) (0, 0) (0, 0); pool = ascii "ap"; tableSize = 20; poolSize = 2; answer = 6 ∷ 1 ∷ 0 ∷ 0 ∷ []; outTable = replicate 20 0; outPool = replicate 2 0 }
+    -- M12: a row that is its own parent
+    ∷ record { table = row 1 0 (0, 0) (0, 1) (0, 0) (0, 0); pool = ascii "a"; tableSize = 10; poolSize = 1; answer = 2 ∷ 0 ∷ 0 ∷ 0 ∷ []; outTable = replicate 10 0; outPool = replicate 1 0 }
+    -- a nearer declaration rebinds the prefix: NS1
+    ∷ record { table = rebound (0, 0); pool = namesabp; tableSize = 60; poolSize = 8; answer = 0 ∷ 0 ∷ 6 ∷ 8 ∷ []; outTable = rebound (5, 3) ++ row 13 2 (0, 0) (5, 3) (0, 0) (3, 1); outPool = namesabp ++ ascii "NS1" }
+    -- the default declaration does not serve an attribute: NS1
+    ∷ record { table = defaulted (0, 0); pool = namesabp; tableSize = 40; poolSize = 8; answer = 0 ∷ 0 ∷ 4 ∷ 8 ∷ []; outTable = defaulted (5, 3) ++ row 13 0 (0, 0) (5, 3) (0, 0) (3, 1); outPool = namesabp ++ ascii "NS1" }
+    -- the attribute's prefix is in scope with another URI: NS1
+    ∷ record { table = conflicting (2, 1); pool = namesabp; tableSize = 40; poolSize = 8; answer = 0 ∷ 0 ∷ 4 ∷ 8 ∷ []; outTable = conflicting (5, 3) ++ row 13 0 (0, 0) (5, 3) (0, 0) (4, 1); outPool = namesabp ++ ascii "NS1" }
+    ∷ []
+
+-- Every case comes out as document 01 says.
+unfoldable pub allPass : Bool
+allPass = allOf passes cases

@@ -1,0 +1,110 @@
+-- Demand 3, in the words of document 01's last paragraphs on normalization. It speaks of outcomes: the answer and the whole
+-- output buffers.
+use Prim.Native.Nat.{ℕ, zero, suc, _*_, _<_}
+use mathlib.Core.Path.{_≡_}
+use mathlib.Core.Bool.{Bool, true, false, cond, _&&_, _||_, not}
+use mathlib.Core.List.{List, [], _∷_, map}
+use lib.ListN.{length, take, drop}
+use lib.Dec.{T, eqb, ltb}
+use Rattle.rules.specs.Lists.{filtered, isOneOf, isEmpty, sameBytes}
+use Rattle.rules.specs.Table.{NONE, Field, Node, fields, nodes, node}
+use Rattle.rules.specs.Answers.{Number, normalizedNumber, normalizedRows, normalizedBytes}
+use Rattle.rules.specs.Lookups.{scopeAt, inScopeUri, uriBytes}
+use Rattle.rules.specs.Normalization.{Outcome, normalized}
+
+-- Normalization succeeded.
+unfoldable pub succeeded : Outcome → Bool
+succeeded o = eqb (normalizedNumber (o .answer) .number) 0
+
+-- The result: the rows that the answered part of the output table has over the answered part of the output pool.
+unfoldable pub resultRows : Outcome → List Node
+resultRows o = nodes (take (10 * normalizedRows (o .answer)) (o .table)) (take (normalizedBytes (o .answer)) (o .pool))
+
+-- An element means its URI if the in-scope URI of its prefix (or default) is it, none for none.
+unfoldable pub elementMeans : List Node → ℕ → Bool
+elementMeans ns e = sameBytes (uriBytes (inScopeUri (scopeAt ns e) (node ns e .prefix .bytes))) (node ns e .uri .bytes)
+
+-- An attribute does if it has neither URI nor prefix, or if it has both and the in-scope URI of its prefix at its owner is its URI.
+unfoldable pub attributeMeans : List Node → ℕ → Bool
+attributeMeans ns a =
+    (isEmpty (node ns a .uri .bytes) && isEmpty (node ns a .prefix .bytes))
+    || (not (isEmpty (node ns a .uri .bytes)) && not (isEmpty (node ns a .prefix .bytes))
+    && sameBytes (uriBytes (inScopeUri (scopeAt ns (node ns a .parent)) (node ns a .prefix .bytes))) (node ns a .uri .bytes))
+
+-- Row r, an element or an attribute, means its URI.
+unfoldable pub means : List Node → ℕ → Bool
+means ns r = cond (eqb (node ns r .type) 1) (elementMeans ns r) (attributeMeans ns r)
+
+-- The row is of type 1, or of type 2 with an owner.
+unfoldable pub isBound : Node → Bool
+isBound n = eqb (n .type) 1 || (eqb (n .type) 2 && not (eqb (n .parent) NONE))
+
+-- Row r has in the result the input's type, parent, and bytes of URI and local name, and means its URI in scope there.
+pub record KeepsMeaning (input result : List Node) (r : ℕ) : Type 0 where
+  pub type : node result r .type ≡ node input r .type
+  pub parent : node result r .parent ≡ node input r .parent
+  pub uri : node result r .uri .bytes ≡ node input r .uri .bytes
+  pub local : node result r .local .bytes ≡ node input r .local .bytes
+  pub meaning : T (means result r)
+
+-- Demand 3, first part: every element and owned attribute keeps its URI and local name, and its prefix means that URI in scope.
+abbrev pub Meaning : Type 0
+Meaning =
+    (table pool : List ℕ) (tableSize poolSize : ℕ) → T (succeeded (normalized table pool tableSize poolSize)) →
+    (r : ℕ) → r < length (nodes table pool) → T (isBound (node (nodes table pool) r)) →
+    KeepsMeaning (nodes table pool) (resultRows (normalized table pool tableSize poolSize)) r
+
+-- The bytes of the four fields, in word order.
+abbrev pub fieldBytes : Node → List (List ℕ)
+fieldBytes n = map (λ (f : Field). f .bytes) (fields n)
+
+-- Two tables agree on a row if it has the same type and parent and the same bytes in all four fields in both; offsets may differ.
+pub record Agree (n m : Node) : Type 0 where
+  pub type : n .type ≡ m .type
+  pub parent : n .parent ≡ m .parent
+  pub bytes : fieldBytes n ≡ fieldBytes m
+
+-- Row r and its ancestors: all rows up the parent words, elements or not. A parent is always less than its row, so r + 1 steps
+-- are enough.
+unfoldable pub upFrom : ℕ → List Node → ℕ → List ℕ
+upFrom zero ns r = []
+upFrom (suc steps) ns r =
+    let above = upFrom steps ns (node ns r .parent) in
+    r ∷ cond (ltb (node ns r .parent) r) above []
+
+unfoldable pub selfAndAncestors : List Node → ℕ → List ℕ
+selfAndAncestors ns r = upFrom (suc r) ns r
+
+-- Row r is row e, an ancestor of it, or a row of type 2 or 13 that one of these owns.
+unfoldable pub concerns : List Node → ℕ → ℕ → Bool
+concerns ns e r =
+    isOneOf (selfAndAncestors ns e) r
+    || (isOneOf (2 ∷ 13 ∷ []) (node ns r .type) && isOneOf (selfAndAncestors ns e) (node ns r .parent))
+
+-- Two tables of equal row count agree on every row that in either of them concerns row e.
+pub record AgreeAt (ns ms : List Node) (e : ℕ) : Type 0 where
+  pub count : length ns ≡ length ms
+  pub rows : (r : ℕ) → r < length ns → T (concerns ns e r || concerns ms e r) → Agree (node ns r) (node ms r)
+
+-- An element's added declarations: the result's rows beyond the input's row count with that parent, in row order.
+unfoldable pub addedDeclarations : ℕ → List Node → ℕ → List Node
+addedDeclarations count result x = filtered (λ (n : Node). eqb (n .parent) x) (drop count result)
+
+-- The results of the two tables agree on all these rows again, and each row e or ancestor of it has the same added
+-- declarations: as many, and each, in turn, with the same bytes in all four fields.
+pub record ResultsAgreeAt (ns result result′ : List Node) (e : ℕ) : Type 0 where
+  pub rows : (r : ℕ) → r < length ns → T (concerns ns e r) → Agree (node result r) (node result′ r)
+  pub added :
+      (x : ℕ) → T (isOneOf (selfAndAncestors ns e) x) →
+      map fieldBytes (addedDeclarations (length ns) result x) ≡ map fieldBytes (addedDeclarations (length ns) result′ x)
+
+-- Demand 3, second part: two tables that agree on an element, its ancestors and what these own agree there after normalization
+-- too, whatever the other rows hold. It holds at every row e, elements among them.
+abbrev pub Independence : Type 0
+Independence =
+    (table pool : List ℕ) (tableSize poolSize : ℕ) (table′ pool′ : List ℕ) (tableSize′ poolSize′ : ℕ) →
+    T (succeeded (normalized table pool tableSize poolSize)) →
+    T (succeeded (normalized table′ pool′ tableSize′ poolSize′)) →
+    (e : ℕ) → e < length (nodes table pool) → AgreeAt (nodes table pool) (nodes table′ pool′) e →
+    ResultsAgreeAt (nodes table pool) (resultRows (normalized table pool tableSize poolSize))
+    (resultRows (normalized table′ pool′ tableSize′ poolSize′)) e

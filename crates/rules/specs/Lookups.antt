@@ -1,0 +1,269 @@
+-- Document 01, "Lookups".
+use Prim.Native.Nat.{ℕ, zero, suc}
+use mathlib.Core.Bool.{Bool, true, false, cond, _&&_, _||_, not}
+use mathlib.Core.List.{List, [], _∷_}
+use mathlib.Core.Option.{Option, none, some}
+use lib.ListN.{length}
+use lib.Dec.{eqb, ltb}
+use Rattle.rules.specs.Lists.{firstThat, filtered, gathered, numbersFrom, isOneOf, isEmpty, sameBytes}
+use Rattle.rules.specs.Table.{NONE, xmlUri, xmlnsUri, xmlPrefix, xmlnsPrefix, part, Field, Node, nodes, node, isElement}
+use Rattle.rules.specs.Refusals.{checked}
+use Rattle.rules.specs.declared.Place.{Place}
+use Rattle.rules.specs.declared.Refusal.{Refusal}
+use Rattle.rules.specs.declared.Checked.{Checked}
+use Rattle.rules.specs.declared.Located.{Located}
+use Rattle.rules.specs.declared.Tested.{Tested}
+use Rattle.rules.specs.declared.InScope.{InScope}
+
+-- Ancestor elements: the climb from row r along parents, over entity references, as a list of rows, nearest first. Row r
+-- itself comes first if it is an element. A parent is always less than its row, so r + 1 steps are enough.
+unfoldable pub climb : ℕ → List Node → ℕ → List ℕ
+climb zero ns r = []
+climb (suc steps) ns r =
+    let above = climb steps ns (node ns r .parent) in
+    let outward = cond (ltb (node ns r .parent) r) above [] in
+    cond (isElement (node ns r .type)) (r ∷ outward) (cond (eqb (node ns r .type) 5) outward [])
+
+unfoldable pub elementsFrom : List Node → ℕ → List ℕ
+elementsFrom ns r = climb (suc r) ns r
+
+abbrev pub nearest : List ℕ → Option ℕ
+nearest [] = none
+nearest (e ∷ outward) = some e
+
+unfoldable pub ancestorElement : List Node → ℕ → Option ℕ
+ancestorElement ns r = cond (ltb (node ns r .parent) r) (nearest (elementsFrom ns (node ns r .parent))) none
+
+-- The owner of an attribute or a declaration.
+unfoldable pub owner : List Node → ℕ → Option ℕ
+owner ns r = cond (eqb (node ns r .parent) NONE) none (some (node ns r .parent))
+
+-- The element child of a document.
+unfoldable pub elementChild : List Node → ℕ → Option ℕ
+elementChild ns r =
+    firstThat (λ child. isElement (node ns child .type) && eqb (node ns child .parent) r) (numbersFrom 0 (length ns))
+
+-- Start element of a row: type 1 or 257, itself; 2, 258, 13, the owner; 9, its element child; 6, 10, 11, 12, none; all others,
+-- the nearest ancestor element.
+unfoldable pub startElement : List Node → ℕ → Option ℕ
+startElement ns r =
+    cond (isOneOf (1 ∷ 257 ∷ []) (node ns r .type)) (some r)
+    (cond (isOneOf (2 ∷ 258 ∷ 13 ∷ []) (node ns r .type)) (owner ns r)
+    (cond (eqb (node ns r .type) 9) (elementChild ns r)
+    (cond (isOneOf (6 ∷ 10 ∷ 11 ∷ 12 ∷ []) (node ns r .type)) none
+    (ancestorElement ns r))))
+
+-- The declarations of element e, in row order.
+abbrev pub isDeclarationOf : ℕ → Node → Bool
+isDeclarationOf e n = eqb (n .type) 13 && eqb (n .parent) e
+
+unfoldable pub ownDeclarations : List Node → ℕ → List Node
+ownDeclarations ns e = filtered (isDeclarationOf e) ns
+
+-- The declaration is of this prefix; of the default, if the prefix is empty.
+abbrev pub declares : List ℕ → Node → Bool
+declares prefix d = sameBytes (d .local .bytes) prefix
+
+-- A DOM Level 1 element's own name is skipped in all lookups.
+abbrev pub hasName : Node → Bool
+hasName element = eqb (element .type) 1
+
+-- A value, or nothing when it is empty.
+abbrev pub unlessEmpty : Field → Option Field
+unlessEmpty value = cond (isEmpty (value .bytes)) none (some value)
+
+-- The bytes found; nothing has none.
+abbrev pub bytesOf : Option Field → List ℕ
+bytesOf none = []
+bytesOf (some found) = found .bytes
+
+abbrev pub declaredValueOr : Option Node → Option Field → Option Field
+declaredValueOr none further = further
+declaredValueOr (some d) further = unlessEmpty (d .value)
+
+-- URI of a prefix, over the elements from the start element outward. At each: if it has a URI and its prefix equals the
+-- query, that URI. Else if it has a declaration of that prefix, its value, or nothing when the value is empty. Else the next
+-- ancestor element.
+unfoldable pub uriOfPrefix : List Node → List ℕ → List ℕ → Option Field
+uriOfPrefix ns prefix [] = none
+uriOfPrefix ns prefix (e ∷ outward) =
+    cond (hasName (node ns e) && not (isEmpty (node ns e .uri .bytes)) && sameBytes (node ns e .prefix .bytes) prefix)
+    (some (node ns e .uri))
+    (declaredValueOr (firstThat (declares prefix) (ownDeclarations ns e)) (uriOfPrefix ns prefix outward))
+
+-- The prefix's URI, looked up from the start element, is this one.
+unfoldable pub leadsTo : List Node → List ℕ → List ℕ → List ℕ → Bool
+leadsTo ns start uri prefix = sameBytes (bytesOf (uriOfPrefix ns prefix start)) uri
+
+abbrev pub declaredPrefixOr : Option Node → Option Field → Option Field
+declaredPrefixOr none further = further
+declaredPrefixOr (some d) further = some (d .local)
+
+-- Prefix of a URI. At each element outward: its own prefix if its URI matches, it has a prefix, and the URI of that prefix,
+-- looked up from the start element, is the query. Then its declarations of non-empty prefixes in row order with value equal
+-- to the query and the same condition.
+unfoldable pub prefixAmong : List Node → List ℕ → List ℕ → List ℕ → Option Field
+prefixAmong ns start uri [] = none
+prefixAmong ns start uri (e ∷ outward) =
+    cond (hasName (node ns e) && sameBytes (node ns e .uri .bytes) uri && not (isEmpty (node ns e .prefix .bytes))
+    && leadsTo ns start uri (node ns e .prefix .bytes))
+    (some (node ns e .prefix))
+    (declaredPrefixOr
+    (firstThat
+    (λ d. not (isEmpty (d .local .bytes)) && sameBytes (d .value .bytes) uri && leadsTo ns start uri (d .local .bytes))
+    (ownDeclarations ns e))
+    (prefixAmong ns start uri outward))
+
+-- Empty query: nothing.
+unfoldable pub prefixOfUri : List Node → List ℕ → List ℕ → Option Field
+prefixOfUri ns uri start = cond (isEmpty uri) none (prefixAmong ns start uri start)
+
+abbrev pub valueEqualsOr : List ℕ → Option Node → Bool → Bool
+valueEqualsOr uri none further = further
+valueEqualsOr uri (some d) further = sameBytes (d .value .bytes) uri
+
+-- Is this the default? At each element outward: with no prefix, yes exactly if its URI equals the query. Else with a default
+-- declaration, yes exactly if its value equals the query. Else outward; at the end, no. Empty equals empty.
+unfoldable pub isDefault : List Node → List ℕ → List ℕ → Bool
+isDefault ns uri [] = false
+isDefault ns uri (e ∷ outward) =
+    cond (hasName (node ns e) && isEmpty (node ns e .prefix .bytes)) (sameBytes (node ns e .uri .bytes) uri)
+    (valueEqualsOr uri (firstThat (declares []) (ownDeclarations ns e)) (isDefault ns uri outward))
+
+-- What is in scope at an element: the declarations of the elements outward, nearest element first, in row order within one.
+unfoldable pub scopeAt : List Node → ℕ → List Node
+scopeAt ns e = gathered (ownDeclarations ns) (elementsFrom ns e)
+
+-- What an in-scope lookup finds: a field of a declaration, a built-in, or none.
+pub data Binding : Type 0 where
+  declared : Field → Binding
+  builtInXml : Binding
+  builtInXmlns : Binding
+  unbound : Binding
+
+abbrev pub orUnbound : Option Field → Binding
+orUnbound none = unbound
+orUnbound (some found) = declared found
+
+abbrev pub valueOf : Option Node → Option Field
+valueOf none = none
+valueOf (some d) = unlessEmpty (d .value)
+
+-- In-scope URI of a prefix. xml and xmlns are built in. Otherwise the nearest declaration of that prefix decides; an empty
+-- value or no declaration means none.
+unfoldable pub inScopeUri : List Node → List ℕ → Binding
+inScopeUri scope prefix =
+    cond (sameBytes prefix xmlPrefix) builtInXml
+    (cond (sameBytes prefix xmlnsPrefix) builtInXmlns
+    (orUnbound (valueOf (firstThat (declares prefix) scope))))
+
+-- The URI that the in-scope URI lookup found; none has no bytes.
+abbrev pub uriBytes : Binding → List ℕ
+uriBytes (declared found) = found .bytes
+uriBytes builtInXml = xmlUri
+uriBytes builtInXmlns = xmlnsUri
+uriBytes unbound = []
+
+-- The declaration is of a non-empty prefix, has this value, and its prefix has this in-scope URI.
+unfoldable pub serves : List Node → List ℕ → Node → Bool
+serves scope uri d =
+    not (isEmpty (d .local .bytes)) && sameBytes (d .value .bytes) uri
+    && sameBytes (uriBytes (inScopeUri scope (d .local .bytes))) uri
+
+abbrev pub prefixOf : Option Node → Binding
+prefixOf none = unbound
+prefixOf (some d) = declared (d .local)
+
+-- In-scope prefix of a URI. Empty query: none. XML-URI gives built-in xml, XMLNS-URI built-in xmlns. Otherwise outward, in
+-- row order, the first declaration that serves.
+unfoldable pub inScopePrefix : List Node → List ℕ → Binding
+inScopePrefix scope uri =
+    cond (isEmpty uri) unbound
+    (cond (sameBytes uri xmlUri) builtInXml
+    (cond (sameBytes uri xmlnsUri) builtInXmlns
+    (prefixOf (firstThat (serves scope uri) scope))))
+
+-- The five operations: the whole check, then 8, then the answer. A lookup without a start element finds nothing.
+
+abbrev pub place : Field → Place
+place found = record { offset = record { 0 = found .offset }; length = found .size }
+
+abbrev pub located : Option Field → Located
+located none = Located.Nothing
+located (some found) = Located.At (place found)
+
+abbrev pub bound : Binding → InScope
+bound (declared found) = InScope.At (place found)
+bound builtInXml = InScope.Xml
+bound builtInXmlns = InScope.Xmlns
+bound unbound = InScope.Nothing
+
+abbrev pub yesOrNo : Bool → Tested
+yesOrNo true = Tested.Yes
+yesOrNo false = Tested.No
+
+-- The elements that a lookup from row r goes through: the start element and outward, or none.
+abbrev pub outwardFrom : List Node → Option ℕ → List ℕ
+outwardFrom ns none = []
+outwardFrom ns (some e) = elementsFrom ns e
+
+unfoldable pub lookupElements : List Node → ℕ → List ℕ
+lookupElements ns r = outwardFrom ns (startElement ns r)
+
+-- The scope at the start element of row r, if it has one.
+abbrev pub scopeFrom : List Node → Option ℕ → Option (List Node)
+scopeFrom ns none = none
+scopeFrom ns (some e) = some (scopeAt ns e)
+
+abbrev pub ifInScope : Option (List Node) → (List Node → Binding) → Binding
+ifInScope none lookup = unbound
+ifInScope (some scope) lookup = lookup scope
+
+-- The refusal of a lookup from row r: the check's, or 8.
+abbrev pub orNoSuchRow : Checked → Bool → Option Refusal
+orNoSuchRow (Checked.Refused x) inTable = some x
+orNoSuchRow Checked.Accepted true = none
+orNoSuchRow Checked.Accepted false = some Refusal.NoSuchRow
+
+unfoldable pub lookupRefusal : List ℕ → List ℕ → ℕ → Option Refusal
+lookupRefusal table pool r = orNoSuchRow (checked table pool) (ltb r (length (nodes table pool)))
+
+abbrev pub locatedUnless : Option Refusal → Option Field → Located
+locatedUnless none found = located found
+locatedUnless (some x) found = Located.Refused x
+
+abbrev pub testedUnless : Option Refusal → Bool → Tested
+testedUnless none yes? = yesOrNo yes?
+testedUnless (some x) yes? = Tested.Refused x
+
+abbrev pub boundUnless : Option Refusal → Binding → InScope
+boundUnless none found = bound found
+boundUnless (some x) found = InScope.Refused x
+
+unfoldable pub lookupUri : List ℕ → List ℕ → ℕ → List ℕ → Located
+lookupUri table pool r prefix =
+    locatedUnless (lookupRefusal table pool r) (uriOfPrefix (nodes table pool) prefix (lookupElements (nodes table pool) r))
+
+unfoldable pub lookupPrefix : List ℕ → List ℕ → ℕ → List ℕ → Located
+lookupPrefix table pool r uri =
+    locatedUnless (lookupRefusal table pool r) (prefixOfUri (nodes table pool) uri (lookupElements (nodes table pool) r))
+
+unfoldable pub testDefault : List ℕ → List ℕ → ℕ → List ℕ → Tested
+testDefault table pool r uri =
+    testedUnless (lookupRefusal table pool r) (isDefault (nodes table pool) uri (lookupElements (nodes table pool) r))
+
+unfoldable pub lookupInScopeUri : List ℕ → List ℕ → ℕ → List ℕ → InScope
+lookupInScopeUri table pool r prefix =
+    boundUnless (lookupRefusal table pool r)
+    (ifInScope (scopeFrom (nodes table pool) (startElement (nodes table pool) r)) (λ scope. inScopeUri scope prefix))
+
+unfoldable pub lookupInScopePrefix : List ℕ → List ℕ → ℕ → List ℕ → InScope
+lookupInScopePrefix table pool r uri =
+    boundUnless (lookupRefusal table pool r)
+    (ifInScope (scopeFrom (nodes table pool) (startElement (nodes table pool) r)) (λ scope. inScopePrefix scope uri))
+
+-- The part of the pool that an answer of the first two lookups stands for; empty for nothing and for a refusal.
+unfoldable pub locatedPart : List ℕ → Located → List ℕ
+locatedPart pool (Located.At found) = part pool (found .offset .0) (found .length)
+locatedPart pool Located.Nothing = []
+locatedPart pool (Located.Refused x) = []

@@ -1,0 +1,75 @@
+// The types that every crate shares: where things stand in a node table and its pool, and what an
+// operation answers. The definitions in specs/Answers.antt give each case's number and values.
+
+// The number of a row of the node table, counted from 0.
+pub struct Row(pub u32);
+
+// A place in the pool, in bytes from its start.
+pub struct Offset(pub u32);
+
+// A part of the pool.
+pub struct Place {
+    pub offset: Offset,
+    pub length: u32,
+}
+
+// Why an operation refuses its input; the row is the one at fault.
+pub enum Refusal {
+    // 1: the table is not whole rows, or the table or the pool is too long.
+    Size,
+    // 2: an unknown type, a parent that is not allowed, or a document's second element.
+    Structure(Row),
+    // 3: a field that runs past the pool, has an offset without a length, or must be empty.
+    Fields(Row),
+    // 4: a local name is missing, or a name holds a byte that it may not.
+    Names(Row),
+    // 5: an element's or attribute's prefix and URI do not go together.
+    Namespace(Row),
+    // 6: an illegal declaration.
+    Declaration(Row),
+    // 7: a second declaration or attribute of the same name at one owner.
+    Double(Row),
+    // 8: a lookup from a row that is not in the table.
+    NoSuchRow,
+    // 9: a DOM Level 1 row, which normalization does not take.
+    Level1(Row),
+    // 10: the result has more rows than a table or the output can hold.
+    RowRoom,
+    // 11: the result has more pool bytes than a pool or the output can hold.
+    PoolRoom,
+}
+
+// What the check answers.
+pub enum Checked {
+    Accepted,
+    Refused(Refusal),
+}
+
+// What the lookups of a URI and of a prefix find: a part of the pool, or nothing.
+pub enum Located {
+    At(Place),
+    Nothing,
+    Refused(Refusal),
+}
+
+// What the default test answers.
+pub enum Tested {
+    Yes,
+    No,
+    Refused(Refusal),
+}
+
+// What the in-scope lookups find: a part of the pool, a built-in binding, or none.
+pub enum InScope {
+    At(Place),
+    Xml,
+    Xmlns,
+    Nothing,
+    Refused(Refusal),
+}
+
+// What normalization answers: how many rows and pool bytes of the outputs the result takes.
+pub enum Normalized {
+    Done { rows: usize, bytes: usize },
+    Refused(Refusal),
+}
