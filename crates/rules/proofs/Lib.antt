@@ -1,1 +1,4 @@
+pub mod Lists
+pub mod Table
+pub mod Accepted
 pub mod Cases

@@ -100,32 +100,38 @@ repairOf scope a =
     (cond (not (isEmpty (a .prefix .bytes)) && sameBytes (uriBytes (inScopeUri scope (a .prefix .bytes))) (a .uri .bytes)) keep
     (repairBy (inScopePrefix scope (a .uri .bytes)) (repairByDeclaring scope a)))
 
--- The field of bytes that are appended to the pool.
-abbrev pub appended : List ℕ → List ℕ → Field
-appended pool bytes = record { offset = length pool; size = length bytes; bytes = bytes }
+-- The bytes that a repair appends to the pool: those of a built-in or an NS prefix.
+unfoldable pub newBytes : Repair → List ℕ
+newBytes keep = []
+newBytes (takeDeclared found) = []
+newBytes (takeBuiltIn bytes) = bytes
+newBytes declareOwn = []
+newBytes (makeNumbered bytes) = bytes
 
--- Does it. References are copied; bytes of a built-in or an NS prefix are appended to the pool once, and attribute and new
--- declaration both point there.
+-- The attribute's prefix after a repair: a copied reference, or the bytes appended to the pool.
+unfoldable pub newPrefix : List ℕ → Node → Repair → Field
+newPrefix pool a keep = a .prefix
+newPrefix pool a (takeDeclared found) = found
+newPrefix pool a (takeBuiltIn bytes) = record { offset = length pool; size = length bytes; bytes = bytes }
+newPrefix pool a declareOwn = a .prefix
+newPrefix pool a (makeNumbered bytes) = record { offset = length pool; size = length bytes; bytes = bytes }
+
+-- The rows that a repair appends: the declaration of the attribute's prefix as its URI.
+unfoldable pub newRows : ℕ → Field → Field → Repair → List Node
+newRows e prefix uri keep = []
+newRows e prefix uri (takeDeclared found) = []
+newRows e prefix uri (takeBuiltIn bytes) = []
+newRows e prefix uri declareOwn = newDeclaration e prefix uri ∷ []
+newRows e prefix uri (makeNumbered bytes) = newDeclaration e prefix uri ∷ []
+
+-- Does it to row a, an attribute of element e.
 unfoldable pub perform : ℕ → ℕ → Repair → State → State
-perform e a keep s = s
-perform e a (takeDeclared found) s =
-    record { rows = set (s .rows) a (withPrefix found (node (s .rows) a)); pool = s .pool }
-perform e a (takeBuiltIn bytes) s =
-    record {
-      rows = set (s .rows) a (withPrefix (appended (s .pool) bytes) (node (s .rows) a));
-      pool = s .pool ++ bytes;
-    }
-perform e a declareOwn s =
-    record {
-      rows = s .rows ++ newDeclaration e (node (s .rows) a .prefix) (node (s .rows) a .uri) ∷ [];
-      pool = s .pool;
-    }
-perform e a (makeNumbered bytes) s =
+perform e a repair s =
     record {
       rows =
-          set (s .rows) a (withPrefix (appended (s .pool) bytes) (node (s .rows) a))
-          ++ newDeclaration e (appended (s .pool) bytes) (node (s .rows) a .uri) ∷ [];
-      pool = s .pool ++ bytes;
+        set (s .rows) a (withPrefix (newPrefix (s .pool) (node (s .rows) a) repair) (node (s .rows) a))
+        ++ newRows e (newPrefix (s .pool) (node (s .rows) a) repair) (node (s .rows) a .uri) repair;
+      pool = s .pool ++ newBytes repair
     }
 
 abbrev pub isAttributeOf : ℕ → Node → Bool
