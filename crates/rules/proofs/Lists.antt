@@ -29,6 +29,10 @@ both-true false b e = absurd (true≢false (sym e))
 pub true-both : {a b : Bool} → a ≡ true → b ≡ true → (a && b) ≡ true
 true-both {a} {b} p q = rw (p, q) refl
 
+pub right-false : (a b : Bool) → (a && b) ≡ false → a ≡ true → b ≡ false
+right-false true b e t = e
+right-false false b e t = absurd (true≢false (sym t))
+
 pub both-false : (a b : Bool) → (a || b) ≡ false → (a ≡ false) × (b ≡ false)
 both-false true b e = absurd (true≢false e)
 both-false false b e = (refl, e)
