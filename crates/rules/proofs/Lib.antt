@@ -1,4 +1,5 @@
 pub mod Lists
 pub mod Table
 pub mod Accepted
+pub mod Scope
 pub mod Cases

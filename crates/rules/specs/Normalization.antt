@@ -36,11 +36,15 @@ withPrefix prefix n =
 abbrev pub isOwnDeclaration : ℕ → List ℕ → Node → Bool
 isOwnDeclaration e prefix n = isDeclarationOf e n && declares prefix n
 
+-- The row, with another value if it is that declaration.
+abbrev pub revalued : ℕ → List ℕ → Field → Node → Node
+revalued e prefix uri n = cond (isOwnDeclaration e prefix n) (withValue uri n) n
+
 -- Sets element e's own declaration of a prefix to a URI, or appends one. Refusal 7 makes it at most one row.
 unfoldable pub declare : ℕ → Field → Field → List Node → List Node
 declare e prefix uri ns =
     cond (anyOf (isOwnDeclaration e (prefix .bytes)) ns)
-    (map (λ n. cond (isOwnDeclaration e (prefix .bytes) n) (withValue uri n) n) ns)
+    (map (revalued e (prefix .bytes) uri) ns)
     (ns ++ newDeclaration e prefix uri ∷ [])
 
 -- Step 1, an element with a URI: if the in-scope URI of its prefix (or default) differs, set its own declaration of that
