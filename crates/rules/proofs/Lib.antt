@@ -2,4 +2,5 @@ pub mod Lists
 pub mod Table
 pub mod Accepted
 pub mod Scope
+pub mod Prefixes
 pub mod Cases
