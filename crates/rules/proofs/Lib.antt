@@ -3,4 +3,5 @@ pub mod Table
 pub mod Accepted
 pub mod Scope
 pub mod Prefixes
+pub mod Repairs
 pub mod Cases
