@@ -4,4 +4,5 @@ pub mod Accepted
 pub mod Scope
 pub mod Prefixes
 pub mod Repairs
+pub mod Meaning
 pub mod Cases

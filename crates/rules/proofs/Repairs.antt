@@ -214,6 +214,14 @@ unbound-fresh scope prefix legal full u =
         let z : isLegal d ≡ false = rw (same, full, v) refl in
         absurd (true-not-false l z)
 
+pub empty-not-xml : sameBytes [] xmlPrefix ≡ false
+unfolding xmlPrefix
+empty-not-xml = refl
+
+pub empty-not-xmlns : sameBytes [] xmlnsPrefix ≡ false
+unfolding xmlnsPrefix
+empty-not-xmlns = refl
+
 xml-prefix-full : isEmpty xmlPrefix ≡ false
 unfolding xmlPrefix
 xml-prefix-full = refl
@@ -334,6 +342,26 @@ own-new-rows e prefix uri (takeBuiltIn bytes) = refl
 own-new-rows e prefix uri declareOwn = rw (eq-eqb e e refl) refl
 own-new-rows e prefix uri (makeNumbered bytes) = rw (eq-eqb e e refl) refl
 
+-- The attribute's new prefix means its URI in the new scope.
+lists-self : (e : ℕ) (pool : List ℕ) (a : Node) (own up : List Node) (repair : Repair) → Served (own ++ up) a repair → InScopeAs ((own ++ newRows e (newPrefix pool a repair) (a .uri) repair) ++ up) (newPrefix pool a repair .bytes) (a .uri .bytes)
+unfolding newRows newPrefix
+lists-self e pool a own up keep t = rw (append-nil own) t
+lists-self e pool a own up (takeDeclared found) t = rw (append-nil own) t
+lists-self e pool a own up (takeBuiltIn bytes) t = rw (append-nil own) t
+lists-self e pool a own up declareOwn t = (t .full, inserted-self e (a .prefix) (a .uri) own up t)
+lists-self e pool a own up (makeNumbered bytes) t =
+    (t .full, inserted-self e (record { offset = length pool; size = length bytes; bytes = bytes }) (a .uri) own up t)
+
+-- Other names mean what they meant.
+lists-other : (e : ℕ) (pool : List ℕ) (a : Node) (own up : List Node) (repair : Repair) → Served (own ++ up) a repair → (q w : List ℕ) → uriBytes (inScopeUri (own ++ up) q) ≡ w → (isEmpty w ≡ false) ⊎ (isEmpty q ≡ true) → uriBytes (inScopeUri ((own ++ newRows e (newPrefix pool a repair) (a .uri) repair) ++ up) q) ≡ w
+unfolding newRows newPrefix
+lists-other e pool a own up keep t q w m h = rw (append-nil own) m
+lists-other e pool a own up (takeDeclared found) t q w m h = rw (append-nil own) m
+lists-other e pool a own up (takeBuiltIn bytes) t q w m h = rw (append-nil own) m
+lists-other e pool a own up declareOwn t q w m h = inserted-other e (a .prefix) (a .uri) own up t q w m h
+lists-other e pool a own up (makeNumbered bytes) t q w m h =
+    inserted-other e (record { offset = length pool; size = length bytes; bytes = bytes }) (a .uri) own up t q w m h
+
 -- What performing a repair does.
 module _ (total e : ℕ) (s : State) (a : ℕ) (repair : Repair) (small : a < total) (long : total ≤ length (s .rows))
     (attribute : node (s .rows) a .type ≡ 2) (owned : node (s .rows) a .parent ≡ e) where
@@ -374,3 +402,19 @@ module _ (total e : ℕ) (s : State) (a : ℕ) (repair : Repair) (small : a < to
         scope-split (perform e a repair s .rows) e (rw (kept-perform .core e within .type) element)
         ∙ ap (λ (l : List Node). ownDeclarations (perform e a repair s .rows) e ++ l) (above-kept total e (s .rows) (perform e a repair s .rows) kept-perform within)
         ∙ ap (λ (l : List Node). l ++ above (s .rows) e) own-perform
+
+    split : scopeAt (s .rows) e ≡ ownDeclarations (s .rows) e ++ above (s .rows) e
+    split = scope-split (s .rows) e element
+
+    pub perform-self : Served (scopeAt (s .rows) e) (node (s .rows) a) repair → InScopeAs (scopeAt (perform e a repair s .rows) e) (after .bytes) (node (s .rows) a .uri .bytes)
+    perform-self t =
+        subst (λ (scope : List Node). InScopeAs scope (after .bytes) (node (s .rows) a .uri .bytes)) (sym scope-perform)
+        (lists-self e (s .pool) (node (s .rows) a) (ownDeclarations (s .rows) e) (above (s .rows) e) repair
+        (subst (λ (scope : List Node). Served scope (node (s .rows) a) repair) split t))
+
+    pub perform-other : Served (scopeAt (s .rows) e) (node (s .rows) a) repair → (q w : List ℕ) → uriBytes (inScopeUri (scopeAt (s .rows) e) q) ≡ w → (isEmpty w ≡ false) ⊎ (isEmpty q ≡ true) → uriBytes (inScopeUri (scopeAt (perform e a repair s .rows) e) q) ≡ w
+    perform-other t q w m h =
+        subst (λ (scope : List Node). uriBytes (inScopeUri scope q) ≡ w) (sym scope-perform)
+        (lists-other e (s .pool) (node (s .rows) a) (ownDeclarations (s .rows) e) (above (s .rows) e) repair
+        (subst (λ (scope : List Node). Served scope (node (s .rows) a) repair) split t) q w
+        (subst (λ (scope : List Node). uriBytes (inScopeUri scope q) ≡ w) split m) h)
