@@ -21,7 +21,7 @@ use Rattle.rules.proofs.Scope.{isOwnedBy, SameCore, core-trans, core-re
 use Rattle.rules.proofs.Repairs.{empty-not-xml, empty-not-xmlns, xml-means, kept-declare, declare-means, scope-kept, InScopeAs, Served, isLegal, served, kept-perform, node-perform-same, node-perform-other, perform-self, perform-other}
 
 -- What the rows keep throughout: a declaration of a non-empty prefix has a value, an attribute with a prefix has a URI.
-isSound : Node → Bool
+pub isSound : Node → Bool
 isSound n = cond (eqb (n .type) 13) (isLegal n) (cond (eqb (n .type) 2) (not (isEmpty (n .uri .bytes)) || isEmpty (n .prefix .bytes)) true)
 
 sound-own : (x : ℕ) (ns : List Node) → allOf isSound ns ≡ true → allOf isLegal (filtered (isDeclarationOf x) ns) ≡ true
@@ -71,11 +71,11 @@ sound-declare e prefix uri ns c s =
     (λ q. rw q (allOf-append isSound ns (newDeclaration e prefix uri ∷ []) s (true-both (sound-declaration e prefix uri c) refl)))
 
 -- Row e means its URI.
-abbrev ElementMeans : List Node → ℕ → Type 0
+abbrev pub ElementMeans : List Node → ℕ → Type 0
 ElementMeans ns e = uriBytes (inScopeUri (scopeAt ns e) (node ns e .prefix .bytes)) ≡ node ns e .uri .bytes
 
 -- Row a, an attribute of e, means its URI.
-abbrev AttributeMeans : List Node → ℕ → ℕ → Type 0
+abbrev pub AttributeMeans : List Node → ℕ → ℕ → Type 0
 AttributeMeans ns e a =
     ((isEmpty (node ns a .uri .bytes) ≡ true) × (isEmpty (node ns a .prefix .bytes) ≡ true))
     ⊎ ((isEmpty (node ns a .uri .bytes) ≡ false) × (InScopeAs (scopeAt ns e) (node ns a .prefix .bytes) (node ns a .uri .bytes)))
@@ -181,6 +181,13 @@ sound-perform e a repair s t u h =
     (allOf-set isSound (s .rows) a (withPrefix after (node (s .rows) a)) h (rw (t, u) refl))
     (sound-new-rows e after (node (s .rows) a .uri) repair u)
 
+-- below one more is there or below
+one-more : (a count : ℕ) → a < suc count → (a ≡ count) ⊎ (a < count)
+one-more a count i =
+    by-cases (eqb a count)
+    (λ q. inl (eqb-true a count q))
+    (λ q. inr (let n : a ≡ count → ⊥ = λ z. true-not-false (eq-eqb a count z) q in omega arith))
+
 -- What holds after the attributes of element e among the rows below count.
 record Attributed (total e count : ℕ) (before : List Node) (s : State) : Type 0 where
   sound : allOf isSound (s .rows) ≡ true
@@ -199,9 +206,6 @@ module _ (total e : ℕ) (before : List Node) (within : e < length before) (long
   without-uri s a h i t q =
       let own = allOf-getD isSound (s .rows) noNode a h i in
       rw (t, q) at own
-
-  one-more : (a count : ℕ) → a < suc count → (a ≡ count) ⊎ (a < count)
-  one-more a count i = by-cases (eqb a count) (λ q. inl (eqb-true a count q)) (λ q. inr (let n : a ≡ count → ⊥ = λ z. true-not-false (eq-eqb a count z) q in omega arith))
 
   module _ (count : ℕ) (s : State) (small : count < total) (h : Attributed total e count before s)
       (attribute : node (s .rows) count .type ≡ 2) (owned : node (s .rows) count .parent ≡ e) where
@@ -285,3 +289,135 @@ module _ (total e : ℕ) (before : List Node) (within : e < length before) (long
           go : (a : ℕ) → node (next .rows) a .type ≡ 2 → node (next .rows) a .parent ≡ e → (a ≡ count) ⊎ (a < count) → AttributeMeans (next .rows) e a
           go a t o (inl z) = subst (λ (r : ℕ). AttributeMeans (next .rows) e r) (sym z) attribute-next
           go a t o (inr z) = attribute-other a z t o
+
+  attribute-step : (count : ℕ) (s : State) → count < total → Attributed total e count before s → Attributed total e (suc count) before (repairAttribute e count s)
+  unfolding repairAttribute repair next
+  attribute-step count s small h =
+      by-cases (isAttributeOf e (node (s .rows) count))
+      (λ q.
+      let t = both-true (eqb (node (s .rows) count .type) 2) (eqb (node (s .rows) count .parent) e) q in
+      let attribute = eqb-true (node (s .rows) count .type) 2 (t .0) in
+      let owned = eqb-true (node (s .rows) count .parent) e (t .1) in
+      by-cases (isEmpty (node (s .rows) count .uri .bytes))
+      (λ u.
+      rw (q, repair-empty (scopeAt (s .rows) e) (node (s .rows) count) u, perform-keep e count s) (keep-one count s small h attribute owned u))
+      (λ u. rw q (perform-one count s small h attribute owned u)))
+      (λ q.
+      rw q
+      (record {
+        sound = h .sound;
+        kept = h .kept;
+        element = h .element;
+        attributes = λ a i t o. go q a t o (one-more a count i)
+      }))
+    where
+      go : isAttributeOf e (node (s .rows) count) ≡ false → (a : ℕ) → node (s .rows) a .type ≡ 2 → node (s .rows) a .parent ≡ e → (a ≡ count) ⊎ (a < count) → AttributeMeans (s .rows) e a
+      go q a t o (inl z) =
+          let yes? : isAttributeOf e (node (s .rows) a) ≡ true = rw (t, eq-eqb (node (s .rows) a .parent) e o) refl in
+          absurd (true-not-false (subst (λ (r : ℕ). isAttributeOf e (node (s .rows) r) ≡ true) z yes?) q)
+      go q a t o (inr z) = h .attributes a z t o
+
+  attributed : (count : ℕ) (s : State) → count ≤ total → Attributed total e 0 before s → Attributed total e count before (repairAttributes e count s)
+  unfolding repairAttributes
+  attributed zero s small h = h
+  attributed (suc count) s small h = attribute-step count (repairAttributes e count s) small (attributed count s (omega arith) h)
+
+-- What holds after the elements among the rows below count.
+pub record Normal (base : List Node) (count : ℕ) (s : State) : Type 0 where
+  pub long : length base ≤ length (s .rows)
+  pub sound : allOf isSound (s .rows) ≡ true
+  pub core : (r : ℕ) → r < length base → SameCore (node base r) (node (s .rows) r)
+  pub fixed : (r : ℕ) → r < length base → isOneOf (2 ∷ 13 ∷ []) (node base r .type) ≡ false → node (s .rows) r ≡ node base r
+  pub elements : (e : ℕ) → e < count → node base e .type ≡ 1 → ElementMeans (s .rows) e
+  pub attributes : (a : ℕ) → a < length base → node base a .type ≡ 2 → node base a .parent < count → node base (node base a .parent) .type ≡ 1 → AttributeMeans (s .rows) (node base a .parent) a
+
+module _ (base : List Node) (good : (e : ℕ) → e < length base → node base e .type ≡ 1 → NamespaceAccepted (node base e)) where
+  -- a row that is no element
+  skip-row : (count : ℕ) (s : State) → (node base count .type ≡ 1 → ⊥) → Normal base count s → Normal base (suc count) s
+  skip-row count s other h =
+      record {
+        long = h .long;
+        sound = h .sound;
+        core = h .core;
+        fixed = h .fixed;
+        elements = λ e i t. element e t (one-more e count i);
+        attributes = λ a i t p o. attribute a i t o (one-more (node base a .parent) count p)
+      }
+    where
+      element : (e : ℕ) → node base e .type ≡ 1 → (e ≡ count) ⊎ (e < count) → ElementMeans (s .rows) e
+      element e t (inl z) = absurd (other (subst (λ (r : ℕ). node base r .type ≡ 1) z t))
+      element e t (inr z) = h .elements e z t
+      attribute : (a : ℕ) → a < length base → node base a .type ≡ 2 → node base (node base a .parent) .type ≡ 1 → (node base a .parent ≡ count) ⊎ (node base a .parent < count) → AttributeMeans (s .rows) (node base a .parent) a
+      attribute a i t o (inl z) = absurd (other (subst (λ (r : ℕ). node base r .type ≡ 1) z o))
+      attribute a i t o (inr z) = h .attributes a i t z o
+
+  -- an element
+  module _ (count : ℕ) (s s′ : State) (small : count < length base) (element : node base count .type ≡ 1) (h : Normal base count s)
+      (done : Attributed (length base) count (length base) (s .rows) s′) where
+    in-rows : (r : ℕ) → r < length base → r < length (s .rows)
+    in-rows r i = lt-of-lt-of-le i (h .long)
+
+    -- an earlier row's scope, and every row that count does not own, are as before
+    earlier : (r : ℕ) → r < count → scopeAt (s′ .rows) r ≡ scopeAt (s .rows) r
+    earlier r i = scope-kept (length base) count (s .rows) (s′ .rows) (done .kept) r i (in-rows r (omega arith))
+
+    element-earlier : (e : ℕ) → e < count → node base e .type ≡ 1 → ElementMeans (s′ .rows) e
+    element-earlier e i t =
+        let b : e < length base = omega arith in
+        let type = h .core e b .type ∙ t in
+        rw (done .kept .rows e (in-rows e b) (not-owned count (node (s .rows) e) type), earlier e i) (h .elements e i t)
+
+    attribute-earlier : (a : ℕ) → a < length base → node base a .type ≡ 2 → node base a .parent < count → node base (node base a .parent) .type ≡ 1 → AttributeMeans (s′ .rows) (node base a .parent) a
+    attribute-earlier a i t p o =
+        let differs : eqb (node (s .rows) a .parent) count ≡ false = ne-eqb (node (s .rows) a .parent) count (λ z. let w = sym (h .core a i .parent) ∙ z in omega arith) in
+        let not-its : isOwnedBy count (node (s .rows) a) ≡ false = rw (h .core a i .type ∙ t, differs) refl in
+        rw (done .kept .rows a (in-rows a i) not-its, earlier (node base a .parent) p) (h .attributes a i t p o)
+
+    normal-row : Normal base (suc count) s′
+    normal-row =
+        record {
+          long = le-trans (h .long) (done .kept .count);
+          sound = done .sound;
+          core = λ r i. core-trans (h .core r i) (done .kept .core r (in-rows r i));
+          fixed = λ r i t.
+            let not-its : isOwnedBy count (node (s .rows) r) ≡ false = rw (h .core r i .type, t) refl in
+            done .kept .rows r (in-rows r i) not-its ∙ h .fixed r i t;
+          elements = λ e i t. go-element e t (one-more e count i);
+          attributes = λ a i t p o. go-attribute a i t o (one-more (node base a .parent) count p)
+        }
+      where
+        go-element : (e : ℕ) → node base e .type ≡ 1 → (e ≡ count) ⊎ (e < count) → ElementMeans (s′ .rows) e
+        go-element e t (inl z) = subst (λ (r : ℕ). ElementMeans (s′ .rows) r) (sym z) (done .element)
+        go-element e t (inr z) = element-earlier e z t
+        go-attribute : (a : ℕ) → a < length base → node base a .type ≡ 2 → node base (node base a .parent) .type ≡ 1 → (node base a .parent ≡ count) ⊎ (node base a .parent < count) → AttributeMeans (s′ .rows) (node base a .parent) a
+        go-attribute a i t o (inl z) =
+            let c = core-trans (h .core a i) (done .kept .core a (in-rows a i)) in
+            subst (λ (r : ℕ). AttributeMeans (s′ .rows) r a) (sym z) (done .attributes a i (c .type ∙ t) (c .parent ∙ z))
+        go-attribute a i t o (inr z) = attribute-earlier a i t z o
+
+  row-step : (count : ℕ) (s : State) → count < length base → Normal base count s → Normal base (suc count) (normalizeRow (length base) count s)
+  unfolding normalizeRow
+  row-step count s small h =
+      let within : count < length (s .rows) = lt-of-lt-of-le small (h .long) in
+      by-cases (eqb (node (s .rows) count .type) 1)
+      (λ q.
+      let now = eqb-true (node (s .rows) count .type) 1 q in
+      let type = sym (h .core count small .type) ∙ now in
+      let same = h .fixed count small (rw type refl) in
+      let named : NamespaceAccepted (node (s .rows) count) = rw same (good count small type) in
+      let start : State = record { rows = repairElement count (s .rows); pool = s .pool } in
+      rw q
+      (normal-row count s (repairAttributes count (length base) start) small type h
+      (attributed (length base) count (s .rows) within (h .long) now named (length base) start (le-refl (length base))
+      (record {
+        sound = sound-element (length base) count (s .rows) within (h .long) now named (h .sound);
+        kept = kept-element (length base) count (s .rows) within (h .long) now named;
+        element = element-means (length base) count (s .rows) within (h .long) now named;
+        attributes = λ a i t o. absurd (not-suc-le-zero i)
+      }))))
+      (λ q. rw q (skip-row count s (λ t. true-not-false (eq-eqb (node (s .rows) count .type) 1 (h .core count small .type ∙ t)) q) h))
+
+  pub rows-normal : (count : ℕ) (s : State) → count ≤ length base → Normal base 0 s → Normal base count (normalizeRows (length base) count s)
+  unfolding normalizeRows
+  rows-normal zero s small h = h
+  rows-normal (suc count) s small h = row-step count (normalizeRows (length base) count s) small (rows-normal count s (omega arith) h)
