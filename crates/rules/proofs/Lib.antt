@@ -5,4 +5,5 @@ pub mod Scope
 pub mod Prefixes
 pub mod Repairs
 pub mod Meaning
+pub mod Result
 pub mod Cases

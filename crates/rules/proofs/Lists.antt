@@ -171,6 +171,24 @@ module _ {A : Type 0} (test : A → Bool) where
       (λ q. rw q (true-both (h .0) (allOf-filtered other xs (h .1))))
       (λ q. rw q (allOf-filtered other xs (h .1)))
 
+  pub allOf-gathered : {B : Type 0} (f : B → List A) → ((x : B) → allOf test (f x) ≡ true) → (xs : List B) → allOf test (gathered f xs) ≡ true
+  allOf-gathered f h [] = refl
+  allOf-gathered f h (x ∷ xs) = allOf-append (f x) (gathered f xs) (h x) (allOf-gathered f h xs)
+
+  pub allOf-weaken : (other : A → Bool) → ((x : A) → test x ≡ true → other x ≡ true) → (xs : List A) → allOf test xs ≡ true → allOf other xs ≡ true
+  allOf-weaken other h [] p = refl
+  allOf-weaken other h (x ∷ xs) p =
+      let both = both-true (test x) (allOf test xs) p in
+      true-both (h x (both .0)) (allOf-weaken other h xs (both .1))
+
+  pub firstThat-none-getD : (xs : List A) (d : A) (i : ℕ) → firstThat test xs ≡ none → i < length xs → test (getD xs i d) ≡ false
+  firstThat-none-getD [] d i e h = absurd (not-suc-le-zero h)
+  firstThat-none-getD (x ∷ xs) d zero e h = both-false (test x) (anyOf test xs) (none-firstThat (x ∷ xs) e) .0
+  firstThat-none-getD (x ∷ xs) d (suc i) e h =
+      by-cases (test x)
+      (λ q. absurd (Option·none-ne-some x (sym (rw q at e))))
+      (λ q. firstThat-none-getD xs d i (rw q at e) (le-of-suc-le-suc h))
+
   pub allOf-getD : (xs : List A) (d : A) (i : ℕ) → allOf test xs ≡ true → i < length xs → test (getD xs i d) ≡ true
   allOf-getD [] d i p h = absurd (not-suc-le-zero h)
   allOf-getD (x ∷ xs) d zero p h = both-true (test x) (allOf test xs) p .0

@@ -11,11 +11,11 @@ use lib.ListN.{length, getD, set}
 use lib.Seq.{set-getD}
 use lib.Dec.{eqb, ltb}
 use borrow.Author.Tests.{eqb-true, eq-eqb, ne-eqb}
-use Rattle.rules.specs.Lists.{filtered, anyOf, allOf, gathered, isOneOf, isEmpty, sameBytes}
+use Rattle.rules.specs.Lists.{filtered, anyOf, allOf, isOneOf, isEmpty, sameBytes}
 use Rattle.rules.specs.Table.{xmlUri, xmlPrefix, Field, noField, Node, noNode, node, isElement}
 use Rattle.rules.specs.Lookups.{elementsFrom, isDeclarationOf, ownDeclarations, declares, scopeAt, inScopeUri, uriBytes}
 use Rattle.rules.specs.Normalization.{State, newDeclaration, withValue, withPrefix, isOwnDeclaration, revalued, declare, repairElement, Repair, keep, takeDeclared, takeBuiltIn, declareOwn, makeNumbered, repairOf, newBytes, newPrefix, newRows, perform, isAttributeOf, repairAttribute, repairAttributes, normalizeRow, normalizeRows}
-use Rattle.rules.proofs.Lists.{by-cases, both-true, true-both, true-not-false, sameBytes-equal, equal-sameBytes, empty-equal, allOf-append, allOf-map, allOf-set, allOf-getD}
+use Rattle.rules.proofs.Lists.{by-cases, both-true, true-both, true-not-false, sameBytes-equal, equal-sameBytes, empty-equal, allOf-append, allOf-gathered, allOf-map, allOf-set, allOf-getD}
 use Rattle.rules.proofs.Accepted.{NamespaceAccepted}
 use Rattle.rules.proofs.Scope.{isOwnedBy, SameCore, core-trans, core-refl, Kept, kept-refl, kept-trans}
 use Rattle.rules.proofs.Repairs.{empty-not-xml, empty-not-xmlns, xml-means, kept-declare, declare-means, scope-kept, InScopeAs, Served, isLegal, served, kept-perform, node-perform-same, node-perform-other, perform-self, perform-other}
@@ -36,13 +36,9 @@ sound-own x (n ∷ ns) s =
     rw q (true-both (rw (t .0) at head) (sound-own x ns (h .1))))
     (λ q. rw q (sound-own x ns (h .1)))
 
-legal-gathered : (f : ℕ → List Node) → ((x : ℕ) → allOf isLegal (f x) ≡ true) → (xs : List ℕ) → allOf isLegal (gathered f xs) ≡ true
-legal-gathered f h [] = refl
-legal-gathered f h (x ∷ xs) = allOf-append isLegal (f x) (gathered f xs) (h x) (legal-gathered f h xs)
-
 sound-scope : (ns : List Node) (e : ℕ) → allOf isSound ns ≡ true → allOf isLegal (scopeAt ns e) ≡ true
 unfolding scopeAt ownDeclarations
-sound-scope ns e s = legal-gathered (ownDeclarations ns) (λ x. sound-own x ns s) (elementsFrom ns e)
+sound-scope ns e s = allOf-gathered isLegal (ownDeclarations ns) (λ x. sound-own x ns s) (elementsFrom ns e)
 
 sound-revalued : (e : ℕ) (prefix : List ℕ) (uri : Field) → (isEmpty prefix ≡ true) ⊎ (isEmpty (uri .bytes) ≡ false) → (n : Node) → isSound n ≡ true → isSound (revalued e prefix uri n) ≡ true
 unfolding isSound

@@ -238,15 +238,33 @@ not-built-in-xmlns : (o : Option Node) → prefixOf o ≡ builtInXmlns → ⊥
 not-built-in-xmlns none e = let y : _≡_ {A = ℕ} 0 1 = cc in omega arith
 not-built-in-xmlns (some d) e = let y : _≡_ {A = ℕ} 0 1 = cc in omega arith
 
+prefix-of-declared : (scope : List Node) (uri : List ℕ) (f : Field) (o : Option Node) → firstThat (serves scope uri) scope ≡ o → prefixOf o ≡ declared f → (d : Node) × (firstThat (serves scope uri) scope ≡ some d) × (d .local ≡ f)
+prefix-of-declared scope uri f none e p = absurd (let z : _≡_ {A = ℕ} 0 1 = cc in omega arith)
+prefix-of-declared scope uri f (some d) e p = (d, e, cc)
+
+-- A declared in-scope prefix of a URI is that of the first declaration that serves.
+pub declared-by : (scope : List Node) (uri : List ℕ) (f : Field) → inScopePrefix scope uri ≡ declared f → (d : Node) × (firstThat (serves scope uri) scope ≡ some d) × (d .local ≡ f)
+unfolding inScopePrefix
+declared-by scope uri f e =
+    by-cases (isEmpty uri)
+    (λ q. let z : unbound ≡ declared f = rw q at e in absurd (let y : _≡_ {A = ℕ} 0 1 = cc in omega arith))
+    (λ full.
+    by-cases (sameBytes uri xmlUri)
+    (λ q. let z : builtInXml ≡ declared f = rw (full, q) at e in absurd (let y : _≡_ {A = ℕ} 0 1 = cc in omega arith))
+    (λ x.
+    by-cases (sameBytes uri xmlnsUri)
+    (λ q. let z : builtInXmlns ≡ declared f = rw (full, x, q) at e in absurd (let y : _≡_ {A = ℕ} 0 1 = cc in omega arith))
+    (λ y. prefix-of-declared scope uri f (firstThat (serves scope uri) scope) refl (rw (full, x, y) at e))))
+
 -- The in-scope prefix of a URI means that URI.
-prefix-of-means : (scope : List Node) (uri : List ℕ) (o : Option Node) → firstThat (serves scope uri) scope ≡ o → (f : Field) → prefixOf o ≡ declared f → InScopeAs scope (f .bytes) uri
+declared-means : (scope : List Node) (uri : List ℕ) (f : Field) → inScopePrefix scope uri ≡ declared f → InScopeAs scope (f .bytes) uri
 unfolding serves
-prefix-of-means scope uri none e f p = absurd (let z : _≡_ {A = ℕ} 0 1 = cc in omega arith)
-prefix-of-means scope uri (some d) e f p =
-    let t = both-true _ _ (firstThat-passes (serves scope uri) scope e) in
+declared-means scope uri f e =
+    let by = declared-by scope uri f e in
+    let d = by .0 in
+    let t = both-true _ _ (firstThat-passes (serves scope uri) scope (by .1)) in
     let u = both-true _ _ (t .0) in
-    let same : d .local ≡ f = cc in
-    subst (λ (g : Field). InScopeAs scope (g .bytes) uri) same
+    subst (λ (g : Field). InScopeAs scope (g .bytes) uri) (by .2)
     (not-true (isEmpty (d .local .bytes)) (u .0), sameBytes-equal (uriBytes (inScopeUri scope (d .local .bytes))) uri (t .1))
 
 module _ (scope : List Node) (a : Node) (legal : allOf isLegal scope ≡ true) (full : isEmpty (a .uri .bytes) ≡ false) where
@@ -270,13 +288,7 @@ module _ (scope : List Node) (a : Node) (legal : allOf isLegal scope ≡ true) (
   served-binding : (b : Binding) → inScopePrefix scope (a .uri .bytes) ≡ b → Served scope a (repairBy b (repairByDeclaring scope a))
   unfolding inScopePrefix
   served-binding unbound e = served-declaring
-  served-binding (declared f) e =
-      by-cases (sameBytes (a .uri .bytes) xmlUri)
-      (λ q. let z : builtInXml ≡ declared f = rw (full, q) at e in absurd (let y : _≡_ {A = ℕ} 0 1 = cc in omega arith))
-      (λ x.
-      by-cases (sameBytes (a .uri .bytes) xmlnsUri)
-      (λ q. let z : builtInXmlns ≡ declared f = rw (full, x, q) at e in absurd (let y : _≡_ {A = ℕ} 0 1 = cc in omega arith))
-      (λ y. prefix-of-means scope (a .uri .bytes) (firstThat (serves scope (a .uri .bytes)) scope) refl f (rw (full, x, y) at e)))
+  served-binding (declared f) e = declared-means scope (a .uri .bytes) f e
   served-binding builtInXml e =
       by-cases (sameBytes (a .uri .bytes) xmlUri)
       (λ q. (xml-prefix-full, xml-means scope ∙ sym (sameBytes-equal (a .uri .bytes) xmlUri q)))

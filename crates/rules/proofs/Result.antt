@@ -1,0 +1,186 @@
+-- The rows that normalization makes lie in its pool, so the output buffers give them back; and what success tells of the input.
+-- Assumes nothing.
+use Prim.Native.Nat.{ℕ, zero, suc, _+_, _-_, _*_, _/_, _≤_, _<_}
+use mathlib.Core.Path.{_≡_, refl, sym, _∙_, ap, subst}
+use mathlib.Core.Bool.{Bool, true, false, cond, _&&_, _||_, not, true≢false}
+use mathlib.Core.List.{List, [], _∷_, _++_, map}
+use mathlib.Core.Option.{Option, none, some}
+use native.Mathlib.Nat.{le-refl, le-trans, lt-of-lt-of-le, zero-add}
+use native.Mathlib.Omega.{arith}
+use lib.ListN.{length, getD, take, drop, set, replicate, length-append, length-drop}
+use lib.Seq.{take-append-le, drop-append-le, drop-append-seam, take-length, take-at, ext-getD}
+use lib.Dec.{T, eqb, ltb, leb, leb·zero}
+use borrow.Author.Tests.{eqb-true, leb-true, le-leb}
+use Rattle.rules.specs.Lists.{firstThat, anyOf, allOf, numbersFrom, sameBytes, isEmpty}
+use Rattle.rules.specs.Table.{Field, noField, part, Node, noNode, word, nodeAt, rowCount, nodes, wordsOf, words, node, isLevel1}
+use Rattle.rules.specs.Answers.{numberOf, normalizedNumber, normalizedRows, normalizedBytes}
+use Rattle.rules.specs.Refusals.{checked}
+use Rattle.rules.specs.Lookups.{elementsFrom, isDeclarationOf, ownDeclarations, scopeAt, Binding, declared, builtInXml, builtInXmlns, unbound, inScopeUri, uriBytes, serves, inScopePrefix}
+use Rattle.rules.specs.Normalization.{State, newDeclaration, withPrefix, isOwnDeclaration, revalued, declare, repairElement, Repair, keep, takeDeclared, takeBuiltIn, declareOwn, makeNumbered, repairByDeclaring, repairBy, repairOf, newBytes, newPrefix, newRows, perform, isAttributeOf, repairAttribute, repairAttributes, normalizeRow, normalizeRows, normalForm, Outcome, padded, refusal, success, tooManyRows, tooManyBytes, fitted, level1Row, outcomeUnlessLevel1, outcomeIf, normalized}
+use Rattle.rules.specs.Demands.{succeeded, resultRows}
+use Rattle.rules.specs.declared.Row.{Row}
+use Rattle.rules.specs.declared.Refusal.{Refusal}
+use Rattle.rules.specs.declared.Checked.{Checked}
+use Rattle.rules.proofs.Lists.{by-cases, both-true, true-both, T-true, true-not-false, sameBytes-equal, sameBytes-refl, equal-sameBytes, allOf-append, allOf-filtered, allOf-gathered, allOf-weaken, allOf-getD, allOf-every, allOf-set, allOf-map, allOf-firstThat}
+use Rattle.rules.proofs.Table.{length-nodes, node-nodes, length-words, word-words}
+use Rattle.rules.proofs.Accepted.{Accepted, FieldAccepted, fields-accepted}
+use Rattle.rules.proofs.Repairs.{declared-by}
+
+-- The field's bytes are those of the pool where it says.
+pub inPool : List ℕ → Field → Bool
+inPool pool f = leb (f .offset + f .size) (length pool) && sameBytes (f .bytes) (part pool (f .offset) (f .size))
+
+pub fitsIn : List ℕ → Node → Bool
+fitsIn pool n = inPool pool (n .prefix) && (inPool pool (n .local) && (inPool pool (n .uri) && inPool pool (n .value)))
+
+record Fits (pool : List ℕ) (n : Node) : Type 0 where
+  prefix : inPool pool (n .prefix) ≡ true
+  local : inPool pool (n .local) ≡ true
+  uri : inPool pool (n .uri) ≡ true
+  value : inPool pool (n .value) ≡ true
+
+fits : (pool : List ℕ) (n : Node) → fitsIn pool n ≡ true → Fits pool n
+unfolding fitsIn
+fits pool n e =
+    let p = both-true _ _ e in
+    let l = both-true _ _ (p .1) in
+    let u = both-true _ _ (l .1) in
+    record { prefix = p .0; local = l .0; uri = u .0; value = u .1 }
+
+fit : (pool : List ℕ) (n : Node) → Fits pool n → fitsIn pool n ≡ true
+unfolding fitsIn
+fit pool n f = true-both (f .prefix) (true-both (f .local) (true-both (f .uri) (f .value)))
+
+in-pool-grown : (pool more : List ℕ) (f : Field) → inPool pool f ≡ true → inPool (pool ++ more) f ≡ true
+unfolding inPool
+in-pool-grown pool more f e =
+    let both = both-true (leb (f .offset + f .size) (length pool)) (sameBytes (f .bytes) (part pool (f .offset) (f .size))) e in
+    let h = leb-true (f .offset + f .size) (length pool) (both .0) in
+    let same : part (pool ++ more) (f .offset) (f .size) ≡ part pool (f .offset) (f .size) =
+        ap (take (f .size)) (drop-append-le (f .offset) pool more (omega arith))
+        ∙ take-append-le (f .size) (drop (f .offset) pool) more (rw length-drop (omega arith))
+    in
+    true-both (le-leb (f .offset + f .size) (length (pool ++ more)) (rw length-append (omega arith))) (rw same (both .1))
+
+fits-grown : (pool more : List ℕ) (n : Node) → fitsIn pool n ≡ true → fitsIn (pool ++ more) n ≡ true
+fits-grown pool more n e =
+    let f = fits pool n e in
+    fit (pool ++ more) n
+    (record {
+      prefix = in-pool-grown pool more (n .prefix) (f .prefix);
+      local = in-pool-grown pool more (n .local) (f .local);
+      uri = in-pool-grown pool more (n .uri) (f .uri);
+      value = in-pool-grown pool more (n .value) (f .value)
+    })
+
+in-pool-new : (pool bytes : List ℕ) → inPool (pool ++ bytes) (record { offset = length pool; size = length bytes; bytes = bytes }) ≡ true
+unfolding inPool
+in-pool-new pool bytes =
+    true-both (le-leb (length pool + length bytes) (length (pool ++ bytes)) (rw length-append (le-refl (length pool + length bytes))))
+    (equal-sameBytes (sym (ap (take (length bytes)) (drop-append-seam pool bytes) ∙ take-length bytes)))
+
+in-pool-none : (pool : List ℕ) → inPool pool noField ≡ true
+unfolding inPool
+in-pool-none pool = true-both (leb·zero (length pool)) refl
+
+fits-scope : (pool : List ℕ) (ns : List Node) (e : ℕ) → allOf (fitsIn pool) ns ≡ true → allOf (fitsIn pool) (scopeAt ns e) ≡ true
+unfolding scopeAt ownDeclarations
+fits-scope pool ns e h = allOf-gathered (fitsIn pool) (ownDeclarations ns) (λ x. allOf-filtered (fitsIn pool) (isDeclarationOf x) ns h) (elementsFrom ns e)
+
+fits-node : (pool : List ℕ) (ns : List Node) (r : ℕ) → allOf (fitsIn pool) ns ≡ true → r < length ns → Fits pool (node ns r)
+unfolding node
+fits-node pool ns r h i = fits pool (getD ns r noNode) (allOf-getD (fitsIn pool) ns noNode r h i)
+
+fits-declare : (pool : List ℕ) (e : ℕ) (prefix uri : Field) (ns : List Node) → inPool pool prefix ≡ true → inPool pool uri ≡ true → allOf (fitsIn pool) ns ≡ true → allOf (fitsIn pool) (declare e prefix uri ns) ≡ true
+unfolding declare
+fits-declare pool e prefix uri ns p u h =
+    by-cases (anyOf (isOwnDeclaration e (prefix .bytes)) ns)
+    (λ q.
+    rw q
+    (allOf-map (fitsIn pool) (revalued e (prefix .bytes) uri) ns
+    (λ n t.
+    let f = fits pool n t in
+    by-cases (isOwnDeclaration e (prefix .bytes) n)
+    (λ s. rw s (fit pool _ (record { prefix = f .prefix; local = f .local; uri = f .uri; value = u })))
+    (λ s. rw s t))
+    h))
+    (λ q.
+    rw q
+    (allOf-append (fitsIn pool) ns (newDeclaration e prefix uri ∷ []) h
+    (true-both (fit pool (newDeclaration e prefix uri) (record { prefix = in-pool-none pool; local = p; uri = in-pool-none pool; value = u })) refl)))
+
+fits-element : (pool : List ℕ) (e : ℕ) (ns : List Node) → e < length ns → allOf (fitsIn pool) ns ≡ true → allOf (fitsIn pool) (repairElement e ns) ≡ true
+unfolding repairElement
+fits-element pool e ns i h =
+    by-cases (isEmpty (node ns e .uri .bytes))
+    (λ q.
+    by-cases (isEmpty (uriBytes (inScopeUri (scopeAt ns e) [])))
+    (λ t. rw (q, t) h)
+    (λ t. rw (q, t) (fits-declare pool e noField noField ns (in-pool-none pool) (in-pool-none pool) h)))
+    (λ q.
+    by-cases (sameBytes (uriBytes (inScopeUri (scopeAt ns e) (node ns e .prefix .bytes))) (node ns e .uri .bytes))
+    (λ t. rw (q, t) h)
+    (λ t. let f = fits-node pool ns e h i in rw (q, t) (fits-declare pool e (node ns e .prefix) (node ns e .uri) ns (f .prefix) (f .uri) h)))
+
+-- What a repair takes from a declaration lies in the pool.
+abbrev Pooled : List ℕ → Repair → Type 0
+Pooled pool keep = Unit {0}
+Pooled pool (takeDeclared found) = inPool pool found ≡ true
+Pooled pool (takeBuiltIn bytes) = Unit {0}
+Pooled pool declareOwn = Unit {0}
+Pooled pool (makeNumbered bytes) = Unit {0}
+
+module _ (pool : List ℕ) (scope : List Node) (a : Node) (h : allOf (fitsIn pool) scope ≡ true) where
+  pooled-declaring : Pooled pool (repairByDeclaring scope a)
+  pooled-declaring =
+      by-cases (not (isEmpty (a .prefix .bytes)) && isEmpty (uriBytes (inScopeUri scope (a .prefix .bytes)))) (λ q. rw q tt) (λ q. rw q tt)
+
+  pooled-binding : (b : Binding) → inScopePrefix scope (a .uri .bytes) ≡ b → Pooled pool (repairBy b (repairByDeclaring scope a))
+  pooled-binding unbound e = pooled-declaring
+  pooled-binding (declared f) e =
+      let by = declared-by scope (a .uri .bytes) f e in
+      let f₁ = fits pool (by .0) (allOf-firstThat (fitsIn pool) (serves scope (a .uri .bytes)) scope h (by .1)) in
+      subst (λ (g : Field). inPool pool g ≡ true) (by .2) (f₁ .local)
+  pooled-binding builtInXml e = tt
+  pooled-binding builtInXmlns e = tt
+
+  pooled : Pooled pool (repairOf scope a)
+  unfolding repairOf
+  pooled =
+      by-cases (isEmpty (a .uri .bytes))
+      (λ u. rw u tt)
+      (λ u.
+      by-cases (not (isEmpty (a .prefix .bytes)) && sameBytes (uriBytes (inScopeUri scope (a .prefix .bytes))) (a .uri .bytes))
+      (λ q. rw (u, q) tt)
+      (λ q. rw (u, q) (pooled-binding (inScopePrefix scope (a .uri .bytes)) refl)))
+
+pooled-prefix : (pool : List ℕ) (a : Node) (repair : Repair) → Pooled pool repair → inPool pool (a .prefix) ≡ true → inPool (pool ++ newBytes repair) (newPrefix pool a repair) ≡ true
+unfolding newBytes newPrefix
+pooled-prefix pool a keep t h = in-pool-grown pool [] (a .prefix) h
+pooled-prefix pool a (takeDeclared found) t h = in-pool-grown pool [] found t
+pooled-prefix pool a (takeBuiltIn bytes) t h = in-pool-new pool bytes
+pooled-prefix pool a declareOwn t h = in-pool-grown pool [] (a .prefix) h
+pooled-prefix pool a (makeNumbered bytes) t h = in-pool-new pool bytes
+
+fits-new-rows : (pool : List ℕ) (e : ℕ) (prefix uri : Field) (repair : Repair) → inPool pool prefix ≡ true → inPool pool uri ≡ true → allOf (fitsIn pool) (newRows e prefix uri repair) ≡ true
+unfolding newRows
+fits-new-rows pool e prefix uri keep p u = refl
+fits-new-rows pool e prefix uri (takeDeclared found) p u = refl
+fits-new-rows pool e prefix uri (takeBuiltIn bytes) p u = refl
+fits-new-rows pool e prefix uri declareOwn p u = true-both (fit pool (newDeclaration e prefix uri) (record { prefix = in-pool-none pool; local = p; uri = in-pool-none pool; value = u })) refl
+fits-new-rows pool e prefix uri (makeNumbered bytes) p u = true-both (fit pool (newDeclaration e prefix uri) (record { prefix = in-pool-none pool; local = p; uri = in-pool-none pool; value = u })) refl
+
+fits-perform : (e a : ℕ) (repair : Repair) (s : State) → a < length (s .rows) → Pooled (s .pool) repair → allOf (fitsIn (s .pool)) (s .rows) ≡ true → allOf (fitsIn (perform e a repair s .pool)) (perform e a repair s .rows) ≡ true
+unfolding perform
+fits-perform e a repair s i t h =
+    let n = node (s .rows) a in
+    let pool′ = s .pool ++ newBytes repair in
+    let after = newPrefix (s .pool) n repair in
+    let f = fits-node (s .pool) (s .rows) a h i in
+    let g = fits pool′ n (fits-grown (s .pool) (newBytes repair) n (fit (s .pool) n f)) in
+    let p = pooled-prefix (s .pool) n repair t (f .prefix) in
+    allOf-append (fitsIn pool′) (set (s .rows) a (withPrefix after n)) (newRows e after (n .uri) repair)
+    (allOf-set (fitsIn pool′) (s .rows) a (withPrefix after n)
+    (allOf-weaken (fitsIn (s .pool)) (fitsIn pool′) (fits-grown (s .pool) (newBytes repair)) (s .rows) h)
+    (fit pool′ (withPrefix after n) (record { prefix = p; local = g .local; uri = g .uri; value = g .value })))
+    (fits-new-rows pool′ e after (n .uri) repair p (g .uri))
