@@ -6,4 +6,5 @@ pub mod Prefixes
 pub mod Repairs
 pub mod Meaning
 pub mod Result
+pub mod Demand3
 pub mod Cases

@@ -21,7 +21,7 @@ use Rattle.rules.proofs.Scope.{isOwnedBy, SameCore, core-trans, core-re
 use Rattle.rules.proofs.Repairs.{empty-not-xml, empty-not-xmlns, xml-means, kept-declare, declare-means, scope-kept, InScopeAs, Served, isLegal, served, kept-perform, node-perform-same, node-perform-other, perform-self, perform-other}
 
 -- What the rows keep throughout: a declaration of a non-empty prefix has a value, an attribute with a prefix has a URI.
-pub isSound : Node → Bool
+unfoldable pub isSound : Node → Bool
 isSound n = cond (eqb (n .type) 13) (isLegal n) (cond (eqb (n .type) 2) (not (isEmpty (n .uri .bytes)) || isEmpty (n .prefix .bytes)) true)
 
 sound-own : (x : ℕ) (ns : List Node) → allOf isSound ns ≡ true → allOf isLegal (filtered (isDeclarationOf x) ns) ≡ true

@@ -7,12 +7,12 @@ use mathlib.Core.List.{List, [], _∷_, _++_, map}
 use mathlib.Core.Option.{Option, none, some}
 use native.Mathlib.Nat.{le-refl, le-trans, lt-of-lt-of-le, zero-add}
 use native.Mathlib.Omega.{arith}
-use lib.ListN.{length, getD, take, drop, set, replicate, length-append, length-drop}
+use lib.ListN.{length, getD, take, drop, set, replicate, length-append, length-drop, length-map, length-set}
 use lib.Seq.{take-append-le, drop-append-le, drop-append-seam, take-length, take-at, ext-getD}
 use lib.Dec.{T, eqb, ltb, leb, leb·zero}
 use borrow.Author.Tests.{eqb-true, leb-true, le-leb}
 use Rattle.rules.specs.Lists.{firstThat, anyOf, allOf, numbersFrom, sameBytes, isEmpty}
-use Rattle.rules.specs.Table.{Field, noField, part, Node, noNode, word, nodeAt, rowCount, nodes, wordsOf, words, node, isLevel1}
+use Rattle.rules.specs.Table.{Field, noField, part, Node, noNode, word, fieldAt, nodeAt, rowCount, nodes, wordsOf, words, node, isLevel1}
 use Rattle.rules.specs.Answers.{numberOf, normalizedNumber, normalizedRows, normalizedBytes}
 use Rattle.rules.specs.Refusals.{checked}
 use Rattle.rules.specs.Lookups.{elementsFrom, isDeclarationOf, ownDeclarations, scopeAt, Binding, declared, builtInXml, builtInXmlns, unbound, inScopeUri, uriBytes, serves, inScopePrefix}
@@ -184,3 +184,175 @@ fits-perform e a repair s i t h =
     (allOf-weaken (fitsIn (s .pool)) (fitsIn pool′) (fits-grown (s .pool) (newBytes repair)) (s .rows) h)
     (fit pool′ (withPrefix after n) (record { prefix = p; local = g .local; uri = g .uri; value = g .value })))
     (fits-new-rows pool′ e after (n .uri) repair p (g .uri))
+
+-- What the rows and the pool keep throughout.
+pub record Pool (total : ℕ) (s : State) : Type 0 where
+  pub long : total ≤ length (s .rows)
+  pub fit : allOf (fitsIn (s .pool)) (s .rows) ≡ true
+
+longer-declare : (e : ℕ) (prefix uri : Field) (ns : List Node) → length ns ≤ length (declare e prefix uri ns)
+unfolding declare
+longer-declare e prefix uri ns =
+    by-cases (anyOf (isOwnDeclaration e (prefix .bytes)) ns)
+    (λ q. rw (q, length-map ns (revalued e (prefix .bytes) uri)) (le-refl (length ns)))
+    (λ q. rw (q, length-append) (omega arith))
+
+longer-element : (e : ℕ) (ns : List Node) → length ns ≤ length (repairElement e ns)
+unfolding repairElement
+longer-element e ns =
+    by-cases (isEmpty (node ns e .uri .bytes))
+    (λ q.
+    by-cases (isEmpty (uriBytes (inScopeUri (scopeAt ns e) [])))
+    (λ t. rw (q, t) (le-refl (length ns)))
+    (λ t. rw (q, t) (longer-declare e noField noField ns)))
+    (λ q.
+    by-cases (sameBytes (uriBytes (inScopeUri (scopeAt ns e) (node ns e .prefix .bytes))) (node ns e .uri .bytes))
+    (λ t. rw (q, t) (le-refl (length ns)))
+    (λ t. rw (q, t) (longer-declare e (node ns e .prefix) (node ns e .uri) ns)))
+
+longer-perform : (e a : ℕ) (repair : Repair) (s : State) → length (s .rows) ≤ length (perform e a repair s .rows)
+unfolding perform
+longer-perform e a repair s = simp (length-append, length-set) (omega arith)
+
+pool-attribute : (total e a : ℕ) (s : State) → a < total → Pool total s → Pool total (repairAttribute e a s)
+unfolding repairAttribute
+pool-attribute total e a s i h =
+    let repair = repairOf (scopeAt (s .rows) e) (node (s .rows) a) in
+    by-cases (isAttributeOf e (node (s .rows) a))
+    (λ q.
+    rw q
+    (record {
+      long = le-trans (h .long) (longer-perform e a repair s);
+      fit = fits-perform e a repair s (lt-of-lt-of-le i (h .long)) (pooled (s .pool) (scopeAt (s .rows) e) (node (s .rows) a) (fits-scope (s .pool) (s .rows) e (h .fit))) (h .fit)
+    }))
+    (λ q. rw q h)
+
+pool-attributes : (total e count : ℕ) (s : State) → count ≤ total → Pool total s → Pool total (repairAttributes e count s)
+unfolding repairAttributes
+pool-attributes total e zero s i h = h
+pool-attributes total e (suc count) s i h = pool-attribute total e count (repairAttributes e count s) i (pool-attributes total e count s (omega arith) h)
+
+pool-row : (total r : ℕ) (s : State) → r < total → Pool total s → Pool total (normalizeRow total r s)
+unfolding normalizeRow
+pool-row total r s i h =
+    by-cases (eqb (node (s .rows) r .type) 1)
+    (λ q.
+    rw q
+    (pool-attributes total r total (record { rows = repairElement r (s .rows); pool = s .pool }) (le-refl total)
+    (record {
+      long = le-trans (h .long) (longer-element r (s .rows));
+      fit = fits-element (s .pool) r (s .rows) (lt-of-lt-of-le i (h .long)) (h .fit)
+    })))
+    (λ q. rw q h)
+
+pub pool-rows : (total count : ℕ) (s : State) → count ≤ total → Pool total s → Pool total (normalizeRows total count s)
+unfolding normalizeRows
+pool-rows total zero s i h = h
+pool-rows total (suc count) s i h = pool-row total count (normalizeRows total count s) i (pool-rows total count s (omega arith) h)
+
+-- A row is its words, read over its pool.
+module _ (pool : List ℕ) (ns : List Node) (h : allOf (fitsIn pool) ns ≡ true) where
+  field-back : (f : Field) → inPool pool f ≡ true → record { offset = f .offset; size = f .size; bytes = part pool (f .offset) (f .size) } ≡ f
+  unfolding inPool
+  field-back f e =
+      let same = sameBytes-equal (f .bytes) (part pool (f .offset) (f .size)) (both-true (leb (f .offset + f .size) (length pool)) (sameBytes (f .bytes) (part pool (f .offset) (f .size))) e .1) in
+      ap (λ (b : List ℕ). record { offset = f .offset; size = f .size; bytes = b }) (sym same)
+
+  row-back : (r : ℕ) → r < length ns → nodeAt (words ns) pool r ≡ node ns r
+  row-back r i =
+      let w : (k : ℕ) → k < 10 → word (words ns) r k ≡ getD (wordsOf (node ns r)) k 0 = λ k j. word-words ns r k i j in
+      let f = fits-node pool ns r h i in
+      rw (w 0 (omega arith), w 1 (omega arith), w 2 (omega arith), w 3 (omega arith), w 4 (omega arith), w 5 (omega arith), w 6 (omega arith), w 7 (omega arith), w 8 (omega arith), w 9 (omega arith))
+      (rw (field-back (node ns r .prefix) (f .prefix), field-back (node ns r .local) (f .local), field-back (node ns r .uri) (f .uri), field-back (node ns r .value) (f .value)) refl)
+
+  pub rows-back : nodes (words ns) pool ≡ ns
+  unfolding node
+  rows-back =
+      let count : rowCount (words ns) ≡ length ns = rw length-words (omega arith) in
+      ext-getD noNode (nodes (words ns) pool) ns (length-nodes (words ns) pool ∙ count)
+      (λ r i.
+      let j : r < length ns = subst (λ (n : ℕ). r < n) (length-nodes (words ns) pool ∙ count) i in
+      node-nodes (words ns) pool r (subst (λ (n : ℕ). r < n) (length-nodes (words ns) pool) i) ∙ row-back r j)
+
+-- The answered parts of the buffers of a success are its rows.
+pub success-rows : (tableSize poolSize : ℕ) (s : State) → allOf (fitsIn (s .pool)) (s .rows) ≡ true → resultRows (success tableSize poolSize s) ≡ s .rows
+unfolding resultRows success normalizedRows normalizedBytes padded
+success-rows tableSize poolSize s h =
+    rw (take-at (words (s .rows)) (replicate (tableSize - length (words (s .rows))) 0) (10 * length (s .rows)) (length-words (s .rows)), take-at (s .pool) (replicate (poolSize - length (s .pool)) 0) (length (s .pool)) refl)
+    (rows-back (s .pool) (s .rows) h)
+
+-- No refusal has the number 0.
+refusal-numbered : (x : Refusal) → eqb (numberOf x .number) 0 ≡ false
+unfolding numberOf
+refusal-numbered Refusal.Size = refl
+refusal-numbered (Refusal.Structure r) = refl
+refusal-numbered (Refusal.Fields r) = refl
+refusal-numbered (Refusal.Names r) = refl
+refusal-numbered (Refusal.Namespace r) = refl
+refusal-numbered (Refusal.Declaration r) = refl
+refusal-numbered (Refusal.Double r) = refl
+refusal-numbered Refusal.NoSuchRow = refl
+refusal-numbered (Refusal.Level1 r) = refl
+refusal-numbered Refusal.RowRoom = refl
+refusal-numbered Refusal.PoolRoom = refl
+
+refused-fails : (tableSize poolSize : ℕ) (x : Refusal) → succeeded (refusal tableSize poolSize x) ≡ false
+unfolding succeeded refusal normalizedNumber
+refused-fails tableSize poolSize x = refusal-numbered x
+
+-- What success tells: the check accepts, no row is of Level 1, and the outcome is the finished result.
+pub record Succeeds (table pool : List ℕ) (tableSize poolSize : ℕ) : Type 0 where
+  pub accepted : checked table pool ≡ Checked.Accepted
+  pub level2 : level1Row (nodes table pool) ≡ none
+  pub outcome : normalized table pool tableSize poolSize ≡ success tableSize poolSize (normalForm (nodes table pool) pool)
+
+module _ (tableSize poolSize : ℕ) where
+  fitted-succeeds : (s : State) → succeeded (fitted tableSize poolSize s) ≡ true → fitted tableSize poolSize s ≡ success tableSize poolSize s
+  unfolding fitted
+  fitted-succeeds s e =
+      by-cases (tooManyRows tableSize s)
+      (λ q. absurd (true-not-false (rw q at e) (refused-fails tableSize poolSize Refusal.RowRoom)))
+      (λ q.
+      by-cases (tooManyBytes poolSize s)
+      (λ t. absurd (true-not-false (rw (q, t) at e) (refused-fails tableSize poolSize Refusal.PoolRoom)))
+      (λ t. rw (q, t) refl))
+
+  unless-level1-succeeds : (o : Option ℕ) (result : Outcome) → succeeded (outcomeUnlessLevel1 tableSize poolSize o result) ≡ true → (o ≡ none) × (outcomeUnlessLevel1 tableSize poolSize o result ≡ result)
+  unless-level1-succeeds none result e = (refl, refl)
+  unless-level1-succeeds (some r) result e = absurd (true-not-false e (refused-fails tableSize poolSize (Refusal.Level1 (record { 0 = r }))))
+
+  if-accepted-succeeds : (c : Checked) (result : Outcome) → succeeded (outcomeIf tableSize poolSize c result) ≡ true → (c ≡ Checked.Accepted) × (outcomeIf tableSize poolSize c result ≡ result)
+  if-accepted-succeeds Checked.Accepted result e = (refl, refl)
+  if-accepted-succeeds (Checked.Refused x) result e = absurd (true-not-false e (refused-fails tableSize poolSize x))
+
+pub succeeds : (table pool : List ℕ) (tableSize poolSize : ℕ) → T (succeeded (normalized table pool tableSize poolSize)) → Succeeds table pool tableSize poolSize
+unfolding normalized
+succeeds table pool tableSize poolSize t =
+    let result = fitted tableSize poolSize (normalForm (nodes table pool) pool) in
+    let inner = outcomeUnlessLevel1 tableSize poolSize (level1Row (nodes table pool)) result in
+    let a = if-accepted-succeeds tableSize poolSize (checked table pool) inner (T-true _ t) in
+    let b = unless-level1-succeeds tableSize poolSize (level1Row (nodes table pool)) result (sym (ap succeeded (a .1)) ∙ T-true _ t) in
+    let c = fitted-succeeds tableSize poolSize (normalForm (nodes table pool) pool) (sym (ap succeeded (a .1 ∙ b .1)) ∙ T-true _ t) in
+    record { accepted = a .0; level2 = b .0; outcome = a .1 ∙ b .1 ∙ c }
+
+field-in-pool : (table pool : List ℕ) (r k : ℕ) → FieldAccepted (length pool) (fieldAt table pool r k) → inPool pool (fieldAt table pool r k) ≡ true
+unfolding inPool
+field-in-pool table pool r k c =
+    true-both (le-leb (word table r k + word table r (k + 1)) (length pool) (c .inPool)) (sameBytes-refl (part pool (word table r k) (word table r (k + 1))))
+
+-- The input's rows lie in its pool.
+pub input-pool : (table pool : List ℕ) → Accepted table pool → allOf (fitsIn pool) (nodes table pool) ≡ true
+unfolding node
+input-pool table pool a =
+    allOf-every (fitsIn pool) (nodes table pool) noNode
+    (λ r i.
+    let f = fields-accepted (nodes table pool) (length pool) r (a .row r i) in
+    let same = node-nodes table pool r (subst (λ (n : ℕ). r < n) (length-nodes table pool) i) in
+    fit pool (node (nodes table pool) r)
+    (rw same
+    (record {
+      prefix = field-in-pool table pool r 2 (subst (λ (n : Node). FieldAccepted (length pool) (n .prefix)) same (f .prefix));
+      local = field-in-pool table pool r 4 (subst (λ (n : Node). FieldAccepted (length pool) (n .local)) same (f .local));
+      uri = field-in-pool table pool r 6 (subst (λ (n : Node). FieldAccepted (length pool) (n .uri)) same (f .uri));
+      value = field-in-pool table pool r 8 (subst (λ (n : Node). FieldAccepted (length pool) (n .value)) same (f .value))
+    })))
