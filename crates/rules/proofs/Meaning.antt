@@ -18,7 +18,7 @@ use Rattle.rules.specs.Normalization.{State, newDeclaration, withValue, 
 use Rattle.rules.proofs.Lists.{by-cases, both-true, true-both, true-not-false, sameBytes-equal, equal-sameBytes, empty-equal, allOf-append, allOf-gathered, allOf-map, allOf-set, allOf-getD}
 use Rattle.rules.proofs.Accepted.{NamespaceAccepted}
 use Rattle.rules.proofs.Scope.{isOwnedBy, SameCore, core-trans, core-refl, Kept, kept-refl, kept-trans}
-use Rattle.rules.proofs.Repairs.{empty-not-xml, empty-not-xmlns, xml-means, kept-declare, declare-means, scope-kept, InScopeAs, Served, isLegal, served, kept-perform, node-perform-same, node-perform-other, perform-self, perform-other}
+use Rattle.rules.proofs.Repairs.{empty-not-xml, empty-not-xmlns, xml-means, declare-means, scope-kept, InScopeAs, Served, isLegal, served, not-owned, is-element, kept-element, kept-perform, node-perform-same, node-perform-other, perform-self, perform-other}
 
 -- What the rows keep throughout: a declaration of a non-empty prefix has a value, an attribute with a prefix has a URI.
 unfoldable pub isSound : Node → Bool
@@ -76,29 +76,9 @@ AttributeMeans ns e a =
     ((isEmpty (node ns a .uri .bytes) ≡ true) × (isEmpty (node ns a .prefix .bytes) ≡ true))
     ⊎ ((isEmpty (node ns a .uri .bytes) ≡ false) × (InScopeAs (scopeAt ns e) (node ns a .prefix .bytes) (node ns a .uri .bytes)))
 
--- An element is owned by nobody.
-not-owned : (e : ℕ) (n : Node) → n .type ≡ 1 → isOwnedBy e n ≡ false
-not-owned e n t = rw t refl
-
-is-element : (n : Node) → n .type ≡ 1 → isElement (n .type) ≡ true
-is-element n t = rw t refl
-
 -- Steps 1 and 2.
 module _ (total e : ℕ) (ns : List Node) (within : e < length ns) (long : total ≤ length ns) (element : node ns e .type ≡ 1)
     (good : NamespaceAccepted (node ns e)) where
-  kept-element : Kept total e ns (repairElement e ns)
-  unfolding repairElement
-  kept-element =
-      by-cases (isEmpty (node ns e .uri .bytes))
-      (λ q.
-      by-cases (isEmpty (uriBytes (inScopeUri (scopeAt ns e) [])))
-      (λ t. rw (q, t) (kept-refl total e ns))
-      (λ t. rw (q, t) (kept-declare total e ns noField noField within long (is-element (node ns e) element))))
-      (λ q.
-      by-cases (sameBytes (uriBytes (inScopeUri (scopeAt ns e) (node ns e .prefix .bytes))) (node ns e .uri .bytes))
-      (λ t. rw (q, t) (kept-refl total e ns))
-      (λ t. rw (q, t) (kept-declare total e ns (node ns e .prefix) (node ns e .uri) within long (is-element (node ns e) element))))
-
   sound-element : allOf isSound ns ≡ true → allOf isSound (repairElement e ns) ≡ true
   unfolding repairElement
   sound-element s =
@@ -143,7 +123,7 @@ module _ (total e : ℕ) (ns : List Node) (within : e < length ns) (long : total
 
   element-means : ElementMeans (repairElement e ns) e
   element-means =
-      let same = kept-element .rows e within (not-owned e (node ns e) element) in
+      let same = kept-element total e ns within long element .rows e within (not-owned e (node ns e) element) in
       rw same repaired
 
 -- Step 3.
@@ -407,7 +387,7 @@ module _ (base : List Node) (good : (e : ℕ) → e < length base → node base 
       (attributed (length base) count (s .rows) within (h .long) now named (length base) start (le-refl (length base))
       (record {
         sound = sound-element (length base) count (s .rows) within (h .long) now named (h .sound);
-        kept = kept-element (length base) count (s .rows) within (h .long) now named;
+        kept = kept-element (length base) count (s .rows) within (h .long) now;
         element = element-means (length base) count (s .rows) within (h .long) now named;
         attributes = λ a i t o. absurd (not-suc-le-zero i)
       }))))

@@ -12,11 +12,11 @@ use lib.ListN.{length, set, length-set}
 use lib.Dec.{eqb, ltb}
 use borrow.Author.Tests.{eqb-true, eq-eqb, ltb-true}
 use Rattle.rules.specs.Lists.{firstThat, filtered, anyOf, allOf, gathered, isEmpty, sameBytes}
-use Rattle.rules.specs.Table.{xmlUri, xmlnsUri, xmlPrefix, xmlnsPrefix, Field, Node, node, isElement}
+use Rattle.rules.specs.Table.{xmlUri, xmlnsUri, xmlPrefix, xmlnsPrefix, Field, noField, Node, node, isElement}
 use Rattle.rules.specs.Lookups.{climb, elementsFrom, isDeclarationOf, ownDeclarations, declares, unlessEmpty, scopeAt, Binding, declared, builtInXml, builtInXmlns, unbound, orUnbound, valueOf, inScopeUri, uriBytes, serves, prefixOf, inScopePrefix}
-use Rattle.rules.specs.Normalization.{State, newDeclaration, withValue, withPrefix, isOwnDeclaration, revalued, declare, numberedPrefix, leastFree, Repair, keep, takeDeclared, takeBuiltIn, declareOwn, makeNumbered, repairByDeclaring, repairBy, repairOf, newBytes, newPrefix, newRows, perform}
+use Rattle.rules.specs.Normalization.{State, newDeclaration, withValue, withPrefix, isOwnDeclaration, revalued, declare, repairElement, numberedPrefix, leastFree, Repair, keep, takeDeclared, takeBuiltIn, declareOwn, makeNumbered, repairByDeclaring, repairBy, repairOf, newBytes, newPrefix, newRows, perform, isAttributeOf, repairAttribute, repairAttributes, normalizeRow}
 use Rattle.rules.proofs.Lists.{by-cases, both-true, both-false, true-both, not-true, true-not-false, sameBytes-equal, sameBytes-refl, equal-sameBytes, unequal-sameBytes, empty-equal, firstThat-passes, firstThat-append-none, firstThat-append-some, firstThat-none, firstThat-some, filtered-append, filtered-map, filtered-passes, allOf-append, allOf-firstThat}
-use Rattle.rules.proofs.Scope.{gathered-climb, above, scope-split, Kept, kept-trans, kept-refl, kept-append, kept-revalued, kept-prefix, own-prefix, node-append, node-set-same, node-set-other}
+use Rattle.rules.proofs.Scope.{gathered-climb, above, scope-split, isOwnedBy, Kept, kept-trans, kept-refl, kept-append, kept-revalued, kept-prefix, own-prefix, node-append, node-set-same, node-set-other}
 use Rattle.rules.proofs.Prefixes.{numbered-not-empty, numbered-not-xml, numbered-not-xmlns, least-free}
 
 -- Insertion of one element between two lists.
@@ -430,3 +430,54 @@ module _ (total e : ℕ) (s : State) (a : ℕ) (repair : Repair) (small : a < to
         (lists-other e (s .pool) (node (s .rows) a) (ownDeclarations (s .rows) e) (above (s .rows) e) repair
         (subst (λ (scope : List Node). Served scope (node (s .rows) a) repair) split t) q w
         (subst (λ (scope : List Node). uriBytes (inScopeUri scope q) ≡ w) split m) h)
+
+-- An element is owned by nobody.
+pub not-owned : (e : ℕ) (n : Node) → n .type ≡ 1 → isOwnedBy e n ≡ false
+not-owned e n t = rw t refl
+
+pub is-element : (n : Node) → n .type ≡ 1 → isElement (n .type) ≡ true
+is-element n t = rw t refl
+
+-- What the steps of one element keep of all others.
+module _ (total e : ℕ) (ns : List Node) (within : e < length ns) (long : total ≤ length ns) (element : node ns e .type ≡ 1) where
+  pub kept-element : Kept total e ns (repairElement e ns)
+  unfolding repairElement
+  kept-element =
+      by-cases (isEmpty (node ns e .uri .bytes))
+      (λ q.
+      by-cases (isEmpty (uriBytes (inScopeUri (scopeAt ns e) [])))
+      (λ t. rw (q, t) (kept-refl total e ns))
+      (λ t. rw (q, t) (kept-declare total e ns noField noField within long (is-element (node ns e) element))))
+      (λ q.
+      by-cases (sameBytes (uriBytes (inScopeUri (scopeAt ns e) (node ns e .prefix .bytes))) (node ns e .uri .bytes))
+      (λ t. rw (q, t) (kept-refl total e ns))
+      (λ t. rw (q, t) (kept-declare total e ns (node ns e .prefix) (node ns e .uri) within long (is-element (node ns e) element))))
+
+kept-attribute : (total e a : ℕ) (s : State) → a < total → total ≤ length (s .rows) → Kept total e (s .rows) (repairAttribute e a s .rows)
+unfolding repairAttribute
+kept-attribute total e a s small long =
+    by-cases (isAttributeOf e (node (s .rows) a))
+    (λ q.
+    let t = both-true (eqb (node (s .rows) a .type) 2) (eqb (node (s .rows) a .parent) e) q in
+    rw q
+    (kept-perform total e s a (repairOf (scopeAt (s .rows) e) (node (s .rows) a)) small long (eqb-true (node (s .rows) a .type) 2 (t .0))
+    (eqb-true (node (s .rows) a .parent) e (t .1))))
+    (λ q. rw q (kept-refl total e (s .rows)))
+
+kept-attributes : (total e count : ℕ) (s : State) → count ≤ total → total ≤ length (s .rows) → Kept total e (s .rows) (repairAttributes e count s .rows)
+unfolding repairAttributes
+kept-attributes total e zero s small long = kept-refl total e (s .rows)
+kept-attributes total e (suc count) s small long =
+    let before = kept-attributes total e count s (omega arith) long in
+    kept-trans before (kept-attribute total e count (repairAttributes e count s) small (le-trans long (before .count)))
+
+pub kept-row : (total r : ℕ) (s : State) → r < length (s .rows) → total ≤ length (s .rows) → Kept total r (s .rows) (normalizeRow total r s .rows)
+unfolding normalizeRow
+kept-row total r s within long =
+    by-cases (eqb (node (s .rows) r .type) 1)
+    (λ q.
+    let first = kept-element total r (s .rows) within long (eqb-true (node (s .rows) r .type) 1 q) in
+    rw q
+    (kept-trans first
+    (kept-attributes total r total (record { rows = repairElement r (s .rows); pool = s .pool }) (le-refl total) (le-trans long (first .count)))))
+    (λ q. rw q (kept-refl total r (s .rows)))
