@@ -5,6 +5,7 @@ pub mod Scope
 pub mod Prefixes
 pub mod Repairs
 pub mod Meaning
+pub mod Forgotten
 pub mod Result
 pub mod Demand3
 pub mod Cases
