@@ -6,6 +6,7 @@ pub mod Prefixes
 pub mod Repairs
 pub mod Meaning
 pub mod Forgotten
+pub mod Independence
 pub mod Result
 pub mod Demand3
 pub mod Cases

@@ -5,7 +5,7 @@ use mathlib.Core.Path.{_≡_, refl, sym, _∙_, ap, subst}
 use mathlib.Core.Bool.{Bool, true, false, cond, _&&_, _||_, not, true≢false}
 use mathlib.Core.List.{List, [], _∷_, _++_, map}
 use mathlib.Core.Option.{Option, none, some, Option·none-ne-some, Option·some-injective}
-use native.Mathlib.Nat.{le-of-suc-le-suc, not-suc-le-zero, add-zero, add-suc, suc-add, zero-add}
+use native.Mathlib.Nat.{le-of-suc-le-suc, not-suc-le-zero, add-zero, add-suc, suc-add, suc-inj, suc-ne-zero}
 use lib.ListN.{length, getD, set}
 use lib.Dec.{T, eqb, eqb·suc-zero}
 use borrow.Author.Tests.{eqb-true, eq-eqb}
@@ -148,6 +148,13 @@ module _ {A : Type 0} (test : A → Bool) where
       (λ q. rw q refl)
       (λ q. rw (q, anyOf-append xs ys) refl)
 
+  pub anyOf-filtered : (other : A → Bool) (xs : List A) → anyOf (λ (x : A). other x && test x) xs ≡ anyOf test (filtered other xs)
+  anyOf-filtered other [] = refl
+  anyOf-filtered other (x ∷ xs) =
+      by-cases (other x)
+      (λ q. rw (q, anyOf-filtered other xs) refl)
+      (λ q. rw (q, anyOf-filtered other xs) refl)
+
   pub allOf-append : (xs ys : List A) → allOf test xs ≡ true → allOf test ys ≡ true → allOf test (xs ++ ys) ≡ true
   allOf-append [] ys p q = q
   allOf-append (x ∷ xs) ys p q =
@@ -239,6 +246,32 @@ module _ {A : Type 0} (test : A → Bool) where
       by-cases (test x)
       (λ q. rw q (true-both q (filtered-passes xs)))
       (λ q. rw q (filtered-passes xs))
+
+-- Maps.
+pub map-append : {A B : Type 0} (f : A → B) (xs ys : List A) → map f (xs ++ ys) ≡ map f xs ++ map f ys
+map-append f [] ys = refl
+map-append f (x ∷ xs) ys = rw (map-append f xs ys) refl
+
+pub map-gathered : {A B C : Type 0} (f : A → B) (g : C → List A) (xs : List C) → map f (gathered g xs) ≡ gathered (λ (x : C). map f (g x)) xs
+map-gathered f g [] = refl
+map-gathered f g (x ∷ xs) = map-append f (g x) (gathered g xs) ∙ ap (λ (l : List _). map f (g x) ++ l) (map-gathered f g xs)
+
+-- two changes that a view does not tell apart but by a change of the view
+pub map-natural : {A B : Type 0} (view : A → B) (f : A → A) (g : B → B) → ((x : A) → view (f x) ≡ g (view x)) → (xs : List A) → map view (map f xs) ≡ map g (map view xs)
+map-natural view f g same [] = refl
+map-natural view f g same (x ∷ xs) = rw (same x, map-natural view f g same xs) refl
+
+-- Two lists of one length whose elements pass a test alike, and have one view where they pass it.
+pub filtered-alike : {A B : Type 0} (test : A → Bool) (view : A → B) (d : A) (xs ys : List A) → length xs ≡ length ys → ((i : ℕ) → i < length xs → (test (getD xs i d) ≡ test (getD ys i d)) × (test (getD xs i d) ≡ true → view (getD xs i d) ≡ view (getD ys i d))) → map view (filtered test xs) ≡ map view (filtered test ys)
+filtered-alike test view d [] [] e h = refl
+filtered-alike test view d [] (y ∷ ys) e h = absurd (suc-ne-zero (length ys) (sym e))
+filtered-alike test view d (x ∷ xs) [] e h = absurd (suc-ne-zero (length xs) e)
+filtered-alike test view d (x ∷ xs) (y ∷ ys) e h =
+    let first = h 0 (suc-le-suc zero-le) in
+    let rest = filtered-alike test view d xs ys (suc-inj e) (λ i k. h (suc i) (suc-le-suc k)) in
+    by-cases (test x)
+    (λ q. rw (q, sym (first .0) ∙ q, first .1 q, rest) refl)
+    (λ q. rw (q, sym (first .0) ∙ q, rest) refl)
 
 -- Numbers that count upwards.
 pub length-numbersFrom : (i count : ℕ) → length (numbersFrom i count) ≡ count

@@ -15,7 +15,7 @@ use Rattle.rules.specs.Lists.{firstThat, filtered, anyOf, allOf, gathere
 use Rattle.rules.specs.Table.{xmlUri, xmlnsUri, xmlPrefix, xmlnsPrefix, Field, noField, Node, node, isElement}
 use Rattle.rules.specs.Lookups.{climb, elementsFrom, isDeclarationOf, ownDeclarations, declares, unlessEmpty, scopeAt, Binding, declared, builtInXml, builtInXmlns, unbound, orUnbound, valueOf, inScopeUri, uriBytes, serves, prefixOf, inScopePrefix}
 use Rattle.rules.specs.Normalization.{State, newDeclaration, withValue, withPrefix, isOwnDeclaration, revalued, declare, repairElement, numberedPrefix, leastFree, Repair, keep, takeDeclared, takeBuiltIn, declareOwn, makeNumbered, repairByDeclaring, repairBy, repairOf, newBytes, newPrefix, newRows, perform, isAttributeOf, repairAttribute, repairAttributes, normalizeRow}
-use Rattle.rules.proofs.Lists.{by-cases, both-true, both-false, true-both, not-true, true-not-false, sameBytes-equal, sameBytes-refl, equal-sameBytes, unequal-sameBytes, empty-equal, firstThat-passes, firstThat-append-none, firstThat-append-some, firstThat-none, firstThat-some, filtered-append, filtered-map, filtered-passes, allOf-append, allOf-firstThat}
+use Rattle.rules.proofs.Lists.{by-cases, both-true, both-false, true-both, not-true, true-not-false, sameBytes-equal, sameBytes-refl, equal-sameBytes, unequal-sameBytes, empty-equal, firstThat-passes, firstThat-append-none, firstThat-append-some, firstThat-none, firstThat-some, anyOf-filtered, filtered-append, filtered-map, filtered-passes, allOf-append, allOf-firstThat}
 use Rattle.rules.proofs.Scope.{gathered-climb, above, scope-split, isOwnedBy, Kept, kept-trans, kept-refl, kept-append, kept-revalued, kept-prefix, own-prefix, node-append, node-set-same, node-set-other}
 use Rattle.rules.proofs.Prefixes.{numbered-not-empty, numbered-not-xml, numbered-not-xmlns, least-free}
 
@@ -38,13 +38,6 @@ module _ {A : Type 0} (test : A → Bool) where
       by-cases (test x)
       (λ q. absurd (Option·none-ne-some x (sym (rw q at e))))
       (λ q. rw q (prefix-none xs ys (rw q at e)))
-
-  anyOf-filtered : (other : A → Bool) (xs : List A) → anyOf (λ (x : A). other x && test x) xs ≡ anyOf test (filtered other xs)
-  anyOf-filtered other [] = refl
-  anyOf-filtered other (x ∷ xs) =
-      by-cases (other x)
-      (λ q. rw (q, anyOf-filtered other xs) refl)
-      (λ q. rw (q, anyOf-filtered other xs) refl)
 
 -- The in-scope URI of a prefix depends on the first declaration of it.
 pub same-first : (prefix : List ℕ) (scope scope′ : List Node) → firstThat (declares prefix) scope ≡ firstThat (declares prefix) scope′ → inScopeUri scope prefix ≡ inScopeUri scope′ prefix
@@ -80,10 +73,10 @@ xmlns-uri-full = refl
 
 -- After `declare`, the prefix means the URI.
 
-revalued-type : (e : ℕ) (prefix : List ℕ) (uri : Field) (n : Node) → revalued e prefix uri n .type ≡ n .type
+pub revalued-type : (e : ℕ) (prefix : List ℕ) (uri : Field) (n : Node) → revalued e prefix uri n .type ≡ n .type
 revalued-type e prefix uri n = by-cases (isOwnDeclaration e prefix n) (λ q. rw q refl) (λ q. rw q refl)
 
-revalued-parent : (e : ℕ) (prefix : List ℕ) (uri : Field) (n : Node) → revalued e prefix uri n .parent ≡ n .parent
+pub revalued-parent : (e : ℕ) (prefix : List ℕ) (uri : Field) (n : Node) → revalued e prefix uri n .parent ≡ n .parent
 revalued-parent e prefix uri n = by-cases (isOwnDeclaration e prefix n) (λ q. rw q refl) (λ q. rw q refl)
 
 revalued-first : (e : ℕ) (prefix : List ℕ) (uri : Field) (ds : List Node) → allOf (isDeclarationOf e) ds ≡ true → anyOf (declares prefix) ds ≡ true → (d : Node) × (firstThat (declares prefix) (map (revalued e prefix uri) ds) ≡ some (withValue uri d))
@@ -453,7 +446,7 @@ module _ (total e : ℕ) (ns : List Node) (within : e < length ns) (long : total
       (λ t. rw (q, t) (kept-refl total e ns))
       (λ t. rw (q, t) (kept-declare total e ns (node ns e .prefix) (node ns e .uri) within long (is-element (node ns e) element))))
 
-kept-attribute : (total e a : ℕ) (s : State) → a < total → total ≤ length (s .rows) → Kept total e (s .rows) (repairAttribute e a s .rows)
+pub kept-attribute : (total e a : ℕ) (s : State) → a < total → total ≤ length (s .rows) → Kept total e (s .rows) (repairAttribute e a s .rows)
 unfolding repairAttribute
 kept-attribute total e a s small long =
     by-cases (isAttributeOf e (node (s .rows) a))
@@ -464,7 +457,7 @@ kept-attribute total e a s small long =
     (eqb-true (node (s .rows) a .parent) e (t .1))))
     (λ q. rw q (kept-refl total e (s .rows)))
 
-kept-attributes : (total e count : ℕ) (s : State) → count ≤ total → total ≤ length (s .rows) → Kept total e (s .rows) (repairAttributes e count s .rows)
+pub kept-attributes : (total e count : ℕ) (s : State) → count ≤ total → total ≤ length (s .rows) → Kept total e (s .rows) (repairAttributes e count s .rows)
 unfolding repairAttributes
 kept-attributes total e zero s small long = kept-refl total e (s .rows)
 kept-attributes total e (suc count) s small long =
