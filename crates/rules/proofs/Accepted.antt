@@ -75,11 +75,11 @@ accepted table pool e =
       tableBound = ltb-false 10240 (length table) (w .1);
       poolBound = ltb-false 32768 (length pool) (s .1);
       row = λ r h.
-        row-accepted (nodes table pool) (length pool) r
-        (subst (λ (i : ℕ). rowRefusal (nodes table pool) (length pool) i ≡ none)
-        (getD-numbersFrom 0 (length (nodes table pool)) r 0 h ∙ zero-add r)
-        (rows-accepted (nodes table pool) (length pool) (numbersFrom 0 (length (nodes table pool))) (a .1) r
-        (rw length-numbersFrom h)))
+          row-accepted (nodes table pool) (length pool) r
+          (subst (λ (i : ℕ). rowRefusal (nodes table pool) (length pool) i ≡ none)
+          (getD-numbersFrom 0 (length (nodes table pool)) r 0 h ∙ zero-add r)
+          (rows-accepted (nodes table pool) (length pool) (numbersFrom 0 (length (nodes table pool))) (a .1) r
+          (rw length-numbersFrom h)));
     }
 
 -- The parent of an accepted row is NONE or an earlier row whose type its rule allows.
@@ -147,9 +147,9 @@ field-accepted poolLength f e =
     record {
       inPool = ltb-false poolLength (f .offset + f .size) (both .0);
       noOffset = λ z.
-        by-cases (eqb (f .offset) 0)
-        (λ q. eqb-true (f .offset) 0 q)
-        (λ q. let s : (eqb (f .size) 0 && not (eqb (f .offset) 0)) ≡ true = rw (z, q) refl in absurd (true-not-false s (both .1)))
+          by-cases (eqb (f .offset) 0)
+          (λ q. eqb-true (f .offset) 0 q)
+          (λ q. let s : (eqb (f .size) 0 && not (eqb (f .offset) 0)) ≡ true = rw (z, q) refl in absurd (true-not-false s (both .1)));
     }
 
 -- The four fields of a row.
@@ -173,7 +173,7 @@ fields-accepted ns poolLength r a =
       prefix = field-accepted poolLength (n .prefix) (p .0);
       local = field-accepted poolLength (n .local) (l .0);
       uri = field-accepted poolLength (n .uri) (u .0);
-      value = field-accepted poolLength (n .value) (v .0)
+      value = field-accepted poolLength (n .value) (v .0);
     }
 
 -- What refusal 5 leaves of an element or attribute.
@@ -197,7 +197,7 @@ namespace-accepted ns poolLength r a t =
       prefixHasUri = λ u. by-cases (isEmpty (n .prefix .bytes)) (λ q. q) (λ q. absurd (true-not-false (true-both (ap not q) u) (e₂ .0)));
       notXmlnsUri = e₂ .1;
       notXmlns = e₃ .1;
-      xmlMeansXml = λ x. by-cases (sameBytes (n .uri .bytes) xmlUri) (λ q. q) (λ q. absurd (true-not-false (true-both x (ap not q)) (e₄ .1)))
+      xmlMeansXml = λ x. by-cases (sameBytes (n .uri .bytes) xmlUri) (λ q. q) (λ q. absurd (true-not-false (true-both x (ap not q)) (e₄ .1)));
     }
 
 -- A declaration of a non-empty prefix has a value.
@@ -206,10 +206,10 @@ unfolding badDeclaration
 declaration-valued ns poolLength r a t l =
     let n = node ns r in
     let f =
-        both-false
-        (sameBytes (n .local .bytes) xmlnsPrefix || (sameBytes (n .local .bytes) xmlPrefix && not (sameBytes (n .value .bytes) xmlUri))
-        || (not (sameBytes (n .local .bytes) xmlPrefix) && sameBytes (n .value .bytes) xmlUri) || sameBytes (n .value .bytes) xmlnsUri)
-        (not (isEmpty (n .local .bytes)) && isEmpty (n .value .bytes))
-        (right-false _ _ (a .declaration) (eq-eqb (n .type) 13 t))
+    both-false
+    (sameBytes (n .local .bytes) xmlnsPrefix || (sameBytes (n .local .bytes) xmlPrefix && not (sameBytes (n .value .bytes) xmlUri))
+    || (not (sameBytes (n .local .bytes) xmlPrefix) && sameBytes (n .value .bytes) xmlUri) || sameBytes (n .value .bytes) xmlnsUri)
+    (not (isEmpty (n .local .bytes)) && isEmpty (n .value .bytes))
+    (right-false _ _ (a .declaration) (eq-eqb (n .type) 13 t))
     in
     by-cases (isEmpty (n .value .bytes)) (λ q. absurd (true-not-false (true-both (ap not l) q) (f .1))) (λ q. q)

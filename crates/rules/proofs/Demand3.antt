@@ -4,22 +4,27 @@ use Prim.Native.Nat.{ℕ, zero, suc, _+_, _≤_, _<_}
 use mathlib.Core.Path.{_≡_, refl, sym, _∙_, ap, subst}
 use mathlib.Core.Logic.{_⊎_, inl, inr}
 use mathlib.Core.Bool.{Bool, true, false, cond, _&&_, _||_, not}
-use mathlib.Core.List.{List, [], _∷_}
+use mathlib.Core.List.{List, [], _∷_, map}
 use mathlib.Core.Option.{none}
-use native.Mathlib.Nat.{le-refl, lt-of-lt-of-le, lt-trans, not-suc-le-zero, zero-add}
-use lib.ListN.{length, getD}
-use lib.Dec.{T, eqb}
-use borrow.Author.Tests.{eqb-true, eq-eqb}
+use native.Mathlib.Nat.{le-refl, le-trans, le-of-lt, lt-of-le-of-lt, lt-of-lt-of-le, lt-trans, not-suc-le-zero, zero-add}
+use native.Mathlib.Omega.{arith}
+use lib.ListN.{length, getD, drop}
+use lib.Seq.{drop-length}
+use lib.Dec.{T, eqb, ltb}
+use borrow.Author.Tests.{eqb-true, eq-eqb, ltb-true, lt-ltb}
 use Rattle.rules.specs.Lists.{allOf, numbersFrom, isOneOf, isEmpty, sameBytes}
 use Rattle.rules.specs.Table.{NONE, Field, Node, noNode, nodes, node, isElement, isLevel1}
-use Rattle.rules.specs.Lookups.{scopeAt, inScopeUri, uriBytes}
+use Rattle.rules.specs.Lookups.{isDeclarationOf, ownDeclarations, scopeAt, inScopeUri, uriBytes}
 use Rattle.rules.specs.Normalization.{State, normalizeRows, normalForm, level1Row, normalized, success}
-use Rattle.rules.specs.Demands.{succeeded, resultRows, elementMeans, attributeMeans, means, isBound, KeepsMeaning, Meaning}
-use Rattle.rules.proofs.Lists.{by-cases, both-true, true-both, T-true, true-T, true-not-false, not-true, equal-sameBytes, allOf-every, firstThat-none-getD, length-numbersFrom, getD-numbersFrom}
-use Rattle.rules.proofs.Accepted.{RowAccepted, Accepted, accepted, owner-element, namespace-accepted, NamespaceAccepted, declaration-valued}
+use Rattle.rules.specs.Demands.{succeeded, resultRows, elementMeans, attributeMeans, means, isBound, KeepsMeaning, Meaning, fieldBytes, Agree, upFrom, selfAndAncestors, concerns, AgreeAt, addedDeclarations, ResultsAgreeAt, Independence}
+use Rattle.rules.proofs.Lists.{by-cases, both-true, true-both, either-left, either-right, T-true, true-T, true-not-false, not-true, equal-sameBytes, allOf-every, filtered-alike, firstThat-none-getD, length-numbersFrom, getD-numbersFrom}
+use Rattle.rules.proofs.Accepted.{RowAccepted, Accepted, accepted, parent-falls, owner-element, namespace-accepted, NamespaceAccepted, declaration-valued}
 use Rattle.rules.proofs.Scope.{SameCore, core-refl}
 use Rattle.rules.proofs.Repairs.{isLegal, InScopeAs}
 use Rattle.rules.proofs.Meaning.{isSound, ElementMeans, AttributeMeans, Normal, rows-normal}
+use Rattle.rules.proofs.Forgotten.{forget}
+use Rattle.rules.proofs.Independence.{Closed, Alike, Both, rows-alike}
+use Rattle.rules.proofs.Table.{length-nodes}
 use Rattle.rules.proofs.Result.{Pool, pool-rows, success-rows, Succeeds, succeeds, input-pool}
 
 -- What is known of an accepted table without Level 1 rows.
@@ -69,7 +74,7 @@ module _ (table pool : List ℕ) (a : Accepted table pool) (level2 : level1Row (
         core = λ r i. core-refl (node base r);
         fixed = λ r i t. refl;
         elements = λ e i t. absurd (not-suc-le-zero i);
-        attributes = λ b i t p o. absurd (not-suc-le-zero p)
+        attributes = λ b i t p o. absurd (not-suc-le-zero p);
       }
 
   normal : Normal base (length base) (normalForm base pool)
@@ -122,5 +127,215 @@ meaning table pool tableSize poolSize t r i b =
       parent = c .parent;
       uri = ap (λ (f : Field). f .bytes) (c .uri);
       local = ap (λ (f : Field). f .bytes) (c .local);
-      meaning = true-T (bound-case table pool a (s .level2) r i (T-true (isBound (node (nodes table pool) r)) b))
+      meaning = true-T (bound-case table pool a (s .level2) r i (T-true (isBound (node (nodes table pool) r)) b));
     })
+
+-- The rows up the parent words.
+
+up-below : (steps : ℕ) (ns : List Node) (r x : ℕ) → isOneOf (upFrom steps ns r) x ≡ true → x ≤ r
+unfolding upFrom
+up-below zero ns r x e = absurd (true-not-false e refl)
+up-below (suc steps) ns r x e =
+    by-cases (eqb x r)
+    (λ q. rw (eqb-true x r q) (le-refl r))
+    (λ q.
+    by-cases (ltb (node ns r .parent) r)
+    (λ t. le-trans (up-below steps ns (node ns r .parent) x (rw (q, t) at e)) (le-of-lt (ltb-true (node ns r .parent) r t)))
+    (λ t. absurd (true-not-false (rw (q, t) at e) refl)))
+
+up-first : (steps : ℕ) (ns : List Node) (r : ℕ) → r < steps → isOneOf (upFrom steps ns r) r ≡ true
+unfolding upFrom
+up-first zero ns r h = absurd (not-suc-le-zero h)
+up-first (suc steps) ns r h = rw (eq-eqb r r refl) refl
+
+up-closed : (steps : ℕ) (ns : List Node) (r x : ℕ) → r < steps → isOneOf (upFrom steps ns r) x ≡ true → node ns x .parent < x → isOneOf (upFrom steps ns r) (node ns x .parent) ≡ true
+unfolding upFrom
+up-closed zero ns r x h e i = absurd (not-suc-le-zero h)
+up-closed (suc steps) ns r x h e i =
+    by-cases (eqb (node ns x .parent) r)
+    (λ q. rw q refl)
+    (λ q.
+    by-cases (eqb x r)
+    (λ z.
+    let same = eqb-true x r z in
+    let less : node ns r .parent < r = subst (λ (y : ℕ). node ns y .parent < y) same i in
+    rw (q, lt-ltb (node ns r .parent) r less, same) (up-first steps ns (node ns r .parent) (omega arith)))
+    (λ z.
+    by-cases (ltb (node ns r .parent) r)
+    (λ t. rw (q, t) (up-closed steps ns (node ns r .parent) x (omega (arith, ltb-true (node ns r .parent) r t)) (rw (z, t) at e) i))
+    (λ t. absurd (true-not-false (rw (z, t) at e) refl))))
+
+-- They read the parent words of the rows that they meet, and no others.
+up-same : (P : ℕ → Type 0) (ns ms : List Node) → ((x : ℕ) → P x → node ns x .parent < x → P (node ns x .parent)) → ((x : ℕ) → P x → node ms x .parent ≡ node ns x .parent) → (steps r : ℕ) → P r → upFrom steps ms r ≡ upFrom steps ns r
+unfolding upFrom
+up-same P ns ms closed same zero r p = refl
+up-same P ns ms closed same (suc steps) r p =
+    rw (same r p)
+    (by-cases (ltb (node ns r .parent) r)
+    (λ t. rw (t, up-same P ns ms closed same steps (node ns r .parent) (closed r p (ltb-true (node ns r .parent) r t))) refl)
+    (λ t. rw t refl))
+
+-- Agreement is equality but for places.
+rebuilt : ℕ → ℕ → List (List ℕ) → Node
+rebuilt type parent bytes =
+    record {
+      type = type;
+      parent = parent;
+      prefix = record { offset = 0; size = 0; bytes = getD bytes 0 [] };
+      local = record { offset = 0; size = 0; bytes = getD bytes 1 [] };
+      uri = record { offset = 0; size = 0; bytes = getD bytes 2 [] };
+      value = record { offset = 0; size = 0; bytes = getD bytes 3 [] };
+    }
+
+agree-forget : (n m : Node) → Agree n m → forget n ≡ forget m
+unfolding rebuilt
+agree-forget n m a =
+    ap (λ (t : ℕ). rebuilt t (n .parent) (fieldBytes n)) (a .type)
+    ∙ ap (λ (t : ℕ). rebuilt (m .type) t (fieldBytes n)) (a .parent)
+    ∙ ap (rebuilt (m .type) (m .parent)) (a .bytes)
+
+forget-agree : (n m : Node) → forget n ≡ forget m → Agree n m
+forget-agree n m e = record { type = ap (λ (k : Node). k .type) e; parent = ap (λ (k : Node). k .parent) e; bytes = ap fieldBytes e }
+
+bytes-forgotten : (l : List Node) → map fieldBytes (map forget l) ≡ map fieldBytes l
+bytes-forgotten [] = refl
+bytes-forgotten (n ∷ l) = rw (bytes-forgotten l) refl
+
+-- Two accepted tables that agree at row e.
+module _ (table pool table′ pool′ : List ℕ) (a : Accepted table pool) (a′ : Accepted table′ pool′) (e : ℕ)
+    (within : e < length (nodes table pool)) (agree : AgreeAt (nodes table pool) (nodes table′ pool′) e) where
+  abbrev ns : List Node
+  ns = nodes table pool
+
+  abbrev ms : List Node
+  ms = nodes table′ pool′
+
+  path : ℕ → Bool
+  path x = isOneOf (selfAndAncestors ns e) x
+
+  few-rows : length ns ≤ 1024
+  few-rows = rw (length-nodes table pool) (omega (arith, a .tableBound))
+
+  inside : (x : ℕ) → path x ≡ true → x < length ns
+  unfolding path selfAndAncestors
+  inside x p = lt-of-le-of-lt (up-below (suc e) ns e x p) within
+
+  parents : (x : ℕ) → path x ≡ true → node ns x .parent < x → path (node ns x .parent) ≡ true
+  unfolding path selfAndAncestors
+  parents x p i = up-closed (suc e) ns e x (le-refl (suc e)) p i
+
+  first : path e ≡ true
+  unfolding path selfAndAncestors
+  first = up-first (suc e) ns e (le-refl (suc e))
+
+  on-path : (x : ℕ) → path x ≡ true → Agree (node ns x) (node ms x)
+  unfolding path concerns
+  on-path x p = agree .rows x (inside x p) (true-T (either-left (concerns ms e x) (either-left _ p)))
+
+  same-path : selfAndAncestors ms e ≡ selfAndAncestors ns e
+  unfolding selfAndAncestors
+  same-path = up-same (λ (x : ℕ). path x ≡ true) ns ms parents (λ x p. sym (on-path x p .parent)) (suc e) e first
+
+  owners : (x : ℕ) → path x ≡ true → isOneOf (2 ∷ 13 ∷ []) (node ns x .type) ≡ true → node ns x .parent < length ns → path (node ns x .parent) ≡ true
+  owners x p t i = go (parent-falls ns (length pool) x (a .row x (inside x p)))
+    where
+      go : (node ns x .parent ≡ NONE) ⊎ (node ns x .parent < x) → path (node ns x .parent) ≡ true
+      go (inl z) = absurd (omega (arith, few-rows))
+      go (inr less) = parents x p less
+
+  closed-ns : Closed (length ns) path ns
+  closed-ns = record { long = le-refl (length ns); inside = inside; parents = parents; owners = owners }
+
+  closed-ms : Closed (length ns) path ms
+  closed-ms =
+      record {
+        long = rw (agree .count) (le-refl (length ms));
+        inside = inside;
+        parents = λ x p i. subst (λ (y : ℕ). path y ≡ true) (on-path x p .parent) (parents x p (rw (on-path x p .parent) i));
+        owners = λ x p t i.
+            subst (λ (y : ℕ). path y ≡ true) (on-path x p .parent)
+            (owners x p (rw (on-path x p .type) t) (rw (on-path x p .parent) i));
+      }
+
+  owned-agrees : (r : ℕ) → r < length ns → isOneOf (2 ∷ 13 ∷ []) (node ns r .type) ≡ true → path (node ns r .parent) ≡ true → forget (node ns r) ≡ forget (node ms r)
+  unfolding path concerns
+  owned-agrees r i t p =
+      agree-forget (node ns r) (node ms r)
+      (agree .rows r i (true-T (either-left (concerns ms e r) (either-right (isOneOf (selfAndAncestors ns e) r) (true-both t p)))))
+
+  owned-agrees′ : (r : ℕ) → r < length ns → isOneOf (2 ∷ 13 ∷ []) (node ms r .type) ≡ true → path (node ms r .parent) ≡ true → forget (node ns r) ≡ forget (node ms r)
+  unfolding path concerns
+  owned-agrees′ r i t p =
+      agree-forget (node ns r) (node ms r)
+      (agree .rows r i
+      (true-T
+      (either-right (concerns ns e r)
+      (either-right (isOneOf (selfAndAncestors ms e) r)
+      (true-both t (subst (λ (l : List ℕ). isOneOf l (node ms r .parent) ≡ true) (sym same-path) p))))))
+
+  declared-alike : (x : ℕ) → path x ≡ true → (i : ℕ) → i < length ns → (isDeclarationOf x (node ns i) ≡ isDeclarationOf x (node ms i)) × (isDeclarationOf x (node ns i) ≡ true → forget (node ns i) ≡ forget (node ms i))
+  declared-alike x p i h =
+      by-cases (isDeclarationOf x (node ns i))
+      (λ q. let s = yes-case q in (ap (isDeclarationOf x) s, λ z. s))
+      (λ q.
+      by-cases (isDeclarationOf x (node ms i))
+      (λ q′. let s = other-case q′ in (ap (isDeclarationOf x) s, λ z. s))
+      (λ q′. (q ∙ sym q′, λ z. absurd (true-not-false z q))))
+    where
+      yes-case : isDeclarationOf x (node ns i) ≡ true → forget (node ns i) ≡ forget (node ms i)
+      yes-case q =
+          let t = both-true (eqb (node ns i .type) 13) (eqb (node ns i .parent) x) q in
+          owned-agrees i h (rw (eqb-true (node ns i .type) 13 (t .0)) refl) (rw (eqb-true (node ns i .parent) x (t .1)) p)
+
+      other-case : isDeclarationOf x (node ms i) ≡ true → forget (node ns i) ≡ forget (node ms i)
+      other-case q =
+          let t = both-true (eqb (node ms i .type) 13) (eqb (node ms i .parent) x) q in
+          owned-agrees′ i h (rw (eqb-true (node ms i .type) 13 (t .0)) refl) (rw (eqb-true (node ms i .parent) x (t .1)) p)
+
+  alike : Alike (length ns) path ns ms
+  unfolding ownDeclarations addedDeclarations node
+  alike =
+      record {
+        rows = λ x p. agree-forget (node ns x) (node ms x) (on-path x p);
+        owned = λ r i o. owned-agrees r i (o .0) (o .1);
+        owned′ = λ r i o. owned-agrees′ r i (o .0) (o .1);
+        own = λ x p. filtered-alike (isDeclarationOf x) forget noNode ns ms (agree .count) (declared-alike x p);
+        added = λ x p. rw (drop-length ns, agree .count, drop-length ms) refl;
+      }
+
+  both-rows : Both (length ns) path (normalForm ns pool) (normalForm ms pool′)
+  unfolding normalForm
+  both-rows =
+      subst (λ (n : ℕ). Both (length ns) path (normalizeRows (length ns) (length ns) (record { rows = ns; pool = pool })) (normalizeRows n n (record { rows = ms; pool = pool′ }))) (agree .count)
+      (rows-alike (length ns) path (length ns) (record { rows = ns; pool = pool }) (record { rows = ms; pool = pool′ }) (le-refl (length ns))
+      (record { closed = closed-ns; closed′ = closed-ms; alike = alike }))
+
+  module _ (level2 : level1Row (nodes table pool) ≡ none) where
+    row-agrees : (r : ℕ) → r < length ns → concerns ns e r ≡ true → Agree (node (normalForm ns pool .rows) r) (node (normalForm ms pool′ .rows) r)
+    unfolding concerns path
+    row-agrees r i q =
+        by-cases (isOneOf (selfAndAncestors ns e) r)
+        (λ p. forget-agree _ _ (both-rows .alike .rows r p))
+        (λ p.
+        let t = both-true (isOneOf (2 ∷ 13 ∷ []) (node ns r .type)) (isOneOf (selfAndAncestors ns e) (node ns r .parent)) (rw p at q) in
+        let c = normal table pool a level2 .core r i in
+        forget-agree _ _ (both-rows .alike .owned r i (rw (c .type) (t .0), rw (c .parent) (t .1))))
+
+    results-agree : ResultsAgreeAt ns (normalForm ns pool .rows) (normalForm ms pool′ .rows) e
+    unfolding path
+    results-agree =
+        record {
+          rows = λ r i q. row-agrees r i (T-true (concerns ns e r) q);
+          added = λ x p.
+              sym (bytes-forgotten (addedDeclarations (length ns) (normalForm ns pool .rows) x))
+              ∙ ap (map fieldBytes) (both-rows .alike .added x (T-true (isOneOf (selfAndAncestors ns e) x) p))
+              ∙ bytes-forgotten (addedDeclarations (length ns) (normalForm ms pool′ .rows) x);
+        }
+
+-- Demand 3, second part.
+pub independence : Independence
+independence table pool tableSize poolSize table′ pool′ tableSize′ poolSize′ t t′ e within agree =
+    let s = succeeds table pool tableSize poolSize t in
+    let s′ = succeeds table′ pool′ tableSize′ poolSize′ t′ in
+    rw (result-is table pool tableSize poolSize s, result-is table′ pool′ tableSize′ poolSize′ s′)
+    (results-agree table pool table′ pool′ (accepted table pool (s .accepted)) (accepted table′ pool′ (s′ .accepted)) e within agree (s .level2))

@@ -25,7 +25,7 @@ forget n =
       prefix = forgetField (n .prefix);
       local = forgetField (n .local);
       uri = forgetField (n .uri);
-      value = forgetField (n .value)
+      value = forgetField (n .value);
     }
 
 abbrev forgetFound : Option Node → Option Node

@@ -67,7 +67,7 @@ module _ (total : ℕ) (path : ℕ → Bool) where
         owned = λ r i o. sym (h .owned′ r i o);
         owned′ = λ r i o. sym (h .owned r i o);
         own = λ x p. sym (h .own x p);
-        added = λ x p. sym (h .added x p)
+        added = λ x p. sym (h .added x p);
       }
 
   owned-core : {n m : Node} → SameCore n m → Owned m → Owned n
@@ -81,7 +81,7 @@ module _ (total : ℕ) (path : ℕ → Bool) where
         long = le-trans (c .long) (k .count);
         inside = c .inside;
         parents = λ x p i. rw (core x p .parent) (c .parents x p (rw (core x p .parent) at i));
-        owners = λ x p t i. rw (core x p .parent) (c .owners x p (rw (core x p .type) at t) (rw (core x p .parent) at i))
+        owners = λ x p t i. rw (core x p .parent) (c .owners x p (rw (core x p .type) at t) (rw (core x p .parent) at i));
       }
 
   -- A row outside the set is processed in one of the tables.
@@ -114,13 +114,13 @@ module _ (total : ℕ) (path : ℕ → Bool) where
         record {
           rows = λ x p. ap forget (k .rows x (in-rows x (c .inside x p)) (not-its-row x p)) ∙ h .rows x p;
           owned = λ x i o.
-            let o₁ = owned-core (k .core x (in-rows x i)) o in
-            ap forget (k .rows x (in-rows x i) (not-its-owned (node ns x) (o₁ .1))) ∙ h .owned x i o₁;
+              let o₁ = owned-core (k .core x (in-rows x i)) o in
+              ap forget (k .rows x (in-rows x i) (not-its-owned (node ns x) (o₁ .1))) ∙ h .owned x i o₁;
           owned′ = λ x i o.
-            let same = h .owned′ x i o in
-            ap forget (k .rows x (in-rows x i) (not-its-owned (node ns x) (rw (same-parent (node ns x) (node ms x) same) (o .1)))) ∙ same;
+              let same = h .owned′ x i o in
+              ap forget (k .rows x (in-rows x i) (not-its-owned (node ns x) (rw (same-parent (node ns x) (node ms x) same) (o .1)))) ∙ same;
           own = λ x p. ap (map forget) (k .own x (other x p)) ∙ h .own x p;
-          added = λ x p. ap (map forget) (k .added x (other x p)) ∙ h .added x p
+          added = λ x p. ap (map forget) (k .added x (other x p)) ∙ h .added x p;
         }
 
   -- The scopes of a row of the set are alike.
@@ -179,16 +179,16 @@ module _ (total : ℕ) (path : ℕ → Bool) where
           owned = λ x i o. revalued-at x i (h .owned x i (owned-core (kept-revalued total e ns prefix uri .core x (lt-of-lt-of-le i (c .long))) o));
           owned′ = λ x i o. revalued-at x i (h .owned′ x i (owned-core (kept-revalued total e ms prefix uri′ .core x (lt-of-lt-of-le i (c′ .long))) o));
           own = λ x p.
-            ap (map forget) (filtered-map (isDeclarationOf x) f ns (keeps uri x))
-            ∙ revalued-all (ownDeclarations ns x) (ownDeclarations ms x) (h .own x p)
-            ∙ ap (map forget) (sym (filtered-map (isDeclarationOf x) f′ ms (keeps uri′ x)));
+              ap (map forget) (filtered-map (isDeclarationOf x) f ns (keeps uri x))
+              ∙ revalued-all (ownDeclarations ns x) (ownDeclarations ms x) (h .own x p)
+              ∙ ap (map forget) (sym (filtered-map (isDeclarationOf x) f′ ms (keeps uri′ x)));
           added = λ x p.
-            let test : Node → Bool = λ (n : Node). eqb (n .parent) x in
-            ap (λ (l : List Node). map forget (filtered test l)) (drop-map f total ns)
-            ∙ ap (map forget) (filtered-map test f (drop total ns) (keeps-parent uri x))
-            ∙ revalued-all (addedDeclarations total ns x) (addedDeclarations total ms x) (h .added x p)
-            ∙ ap (map forget) (sym (filtered-map test f′ (drop total ms) (keeps-parent uri′ x)))
-            ∙ ap (λ (l : List Node). map forget (filtered test l)) (sym (drop-map f′ total ms))
+              let test : Node → Bool = λ (n : Node). eqb (n .parent) x in
+              ap (λ (l : List Node). map forget (filtered test l)) (drop-map f total ns)
+              ∙ ap (map forget) (filtered-map test f (drop total ns) (keeps-parent uri x))
+              ∙ revalued-all (addedDeclarations total ns x) (addedDeclarations total ms x) (h .added x p)
+              ∙ ap (map forget) (sym (filtered-map test f′ (drop total ms) (keeps-parent uri′ x)))
+              ∙ ap (λ (l : List Node). map forget (filtered test l)) (sym (drop-map f′ total ms));
         }
 
   -- Appending rows alike.
@@ -215,10 +215,10 @@ module _ (total : ℕ) (path : ℕ → Bool) where
           owned′ = λ x i o. appended-at x i (h .owned′ x i (subst Owned (node-append ms ds′ x (lt-of-lt-of-le i (c′ .long))) o));
           own = λ x p. appended-filtered (isDeclarationOf x) (λ n. refl) ns ms (h .own x p);
           added = λ x p.
-            let test : Node → Bool = λ (n : Node). eqb (n .parent) x in
-            ap (λ (l : List Node). map forget (filtered test l)) (drop-append-le total ns ds (c .long))
-            ∙ appended-filtered test (λ n. refl) (drop total ns) (drop total ms) (h .added x p)
-            ∙ ap (λ (l : List Node). map forget (filtered test l)) (sym (drop-append-le total ms ds′ (c′ .long)))
+              let test : Node → Bool = λ (n : Node). eqb (n .parent) x in
+              ap (λ (l : List Node). map forget (filtered test l)) (drop-append-le total ns ds (c .long))
+              ∙ appended-filtered test (λ n. refl) (drop total ns) (drop total ms) (h .added x p)
+              ∙ ap (λ (l : List Node). map forget (filtered test l)) (sym (drop-append-le total ms ds′ (c′ .long)));
         }
 
   -- Changing an attribute's prefix alike.
@@ -250,10 +250,10 @@ module _ (total : ℕ) (path : ℕ → Bool) where
           owned′ = λ x i o. prefixed-at x i (h .owned′ x i (owned-core (core-prefixed ms a prefix′ x (lt-of-lt-of-le small (c′ .long))) o));
           own = λ x q. ap (map forget) (own-prefix ns a x prefix t) ∙ h .own x q ∙ ap (map forget) (sym (own-prefix ms a x prefix′ t′));
           added = λ x q.
-            let test : Node → Bool = λ (n : Node). eqb (n .parent) x in
-            ap (λ (l : List Node). map forget (filtered test l)) (drop-set-lt total ns a v small)
-            ∙ h .added x q
-            ∙ ap (λ (l : List Node). map forget (filtered test l)) (sym (drop-set-lt total ms a v′ small))
+              let test : Node → Bool = λ (n : Node). eqb (n .parent) x in
+              ap (λ (l : List Node). map forget (filtered test l)) (drop-set-lt total ns a v small)
+              ∙ h .added x q
+              ∙ ap (λ (l : List Node). map forget (filtered test l)) (sym (drop-set-lt total ms a v′ small));
         }
 
   closed-prefixed : (a : ℕ) (ns : List Node) (prefix : Field) → a < total → Closed ns → Closed (set ns a (withPrefix prefix (node ns a)))
@@ -263,7 +263,7 @@ module _ (total : ℕ) (path : ℕ → Bool) where
         long = rw (length-set ns a (withPrefix prefix (node ns a))) (c .long);
         inside = c .inside;
         parents = λ x q i. rw (core x .parent) (c .parents x q (rw (core x .parent) at i));
-        owners = λ x q t i. rw (core x .parent) (c .owners x q (rw (core x .type) at t) (rw (core x .parent) at i))
+        owners = λ x q t i. rw (core x .parent) (c .owners x q (rw (core x .type) at t) (rw (core x .parent) at i));
       }
 
   -- The steps of an element of the set are alike in both tables.
@@ -274,12 +274,12 @@ module _ (total : ℕ) (path : ℕ → Bool) where
         let b : prefix .bytes ≡ prefix′ .bytes = ap (λ (f : Field). f .bytes) s in
         let d : forget (newDeclaration e prefix uri) ≡ forget (newDeclaration e prefix′ uri′) = ap (λ (f : Field). newDeclaration e f (forgetField uri)) s ∙ ap (λ (f : Field). newDeclaration e (forgetField prefix′) f) u in
         let any : anyOf (isOwnDeclaration e (prefix .bytes)) ns ≡ anyOf (isOwnDeclaration e (prefix′ .bytes)) ms =
-            anyOf-filtered (declares (prefix .bytes)) (isDeclarationOf e) ns
-            ∙ sym (anyOf-forget (declares (prefix .bytes)) (declares (prefix .bytes)) (λ n. refl) (ownDeclarations ns e))
-            ∙ ap (anyOf (declares (prefix .bytes))) (h .own e p)
-            ∙ anyOf-forget (declares (prefix .bytes)) (declares (prefix .bytes)) (λ n. refl) (ownDeclarations ms e)
-            ∙ sym (anyOf-filtered (declares (prefix .bytes)) (isDeclarationOf e) ms)
-            ∙ ap (λ (l : List ℕ). anyOf (isOwnDeclaration e l) ms) b
+        anyOf-filtered (declares (prefix .bytes)) (isDeclarationOf e) ns
+        ∙ sym (anyOf-forget (declares (prefix .bytes)) (declares (prefix .bytes)) (λ n. refl) (ownDeclarations ns e))
+        ∙ ap (anyOf (declares (prefix .bytes))) (h .own e p)
+        ∙ anyOf-forget (declares (prefix .bytes)) (declares (prefix .bytes)) (λ n. refl) (ownDeclarations ms e)
+        ∙ sym (anyOf-filtered (declares (prefix .bytes)) (isDeclarationOf e) ms)
+        ∙ ap (λ (l : List ℕ). anyOf (isOwnDeclaration e l) ms) b
         in
         by-cases (anyOf (isOwnDeclaration e (prefix .bytes)) ns)
         (λ q.
@@ -306,7 +306,7 @@ module _ (total : ℕ) (path : ℕ → Bool) where
         (λ t. rw (q, sym (ap isEmpty ub) ∙ q, t, sym (ap isEmpty (m [])) ∙ t) (declare-alike ns ms noField noField noField noField c c′ refl refl h)))
         (λ q.
         let test : sameBytes (uriBytes (inScopeUri (scopeAt ns e) (node ns e .prefix .bytes))) (node ns e .uri .bytes) ≡ sameBytes (uriBytes (inScopeUri (scopeAt ms e) (node ms e .prefix .bytes))) (node ms e .uri .bytes) =
-            rw (m (node ns e .prefix .bytes), sb, ub) refl
+        rw (m (node ns e .prefix .bytes), sb, ub) refl
         in
         by-cases (sameBytes (uriBytes (inScopeUri (scopeAt ns e) (node ns e .prefix .bytes))) (node ns e .uri .bytes))
         (λ t. rw (q, sym (ap isEmpty ub) ∙ q, t, sym test ∙ t) h)
@@ -321,26 +321,26 @@ module _ (total : ℕ) (path : ℕ → Bool) where
         let repair = repairOf (scopeAt (s .rows) e) n in
         let repair′ = repairOf (scopeAt (s′ .rows) e) n′ in
         let r : forgetRepair repair ≡ forgetRepair repair′ =
-            sym (repair-forget (scopeAt (s .rows) e) n)
-            ∙ ap (λ (scope : List Node). repairOf scope (forget n)) (scope-alike (s .rows) (s′ .rows) e c h p)
-            ∙ ap (repairOf (map forget (scopeAt (s′ .rows) e))) same
-            ∙ repair-forget (scopeAt (s′ .rows) e) n′
+        sym (repair-forget (scopeAt (s .rows) e) n)
+        ∙ ap (λ (scope : List Node). repairOf scope (forget n)) (scope-alike (s .rows) (s′ .rows) e c h p)
+        ∙ ap (repairOf (map forget (scopeAt (s′ .rows) e))) same
+        ∙ repair-forget (scopeAt (s′ .rows) e) n′
         in
         let after = newPrefix (s .pool) n repair in
         let after′ = newPrefix (s′ .pool) n′ repair′ in
         let f : forgetField after ≡ forgetField after′ =
-            new-prefix-forget (s .pool) n repair
-            ∙ ap (λ (m : Node). forgetField (newPrefix [] m (forgetRepair repair))) same
-            ∙ ap (λ (x : Repair). forgetField (newPrefix [] (forget n′) x)) r
-            ∙ sym (new-prefix-forget (s′ .pool) n′ repair′)
+        new-prefix-forget (s .pool) n repair
+        ∙ ap (λ (m : Node). forgetField (newPrefix [] m (forgetRepair repair))) same
+        ∙ ap (λ (x : Repair). forgetField (newPrefix [] (forget n′) x)) r
+        ∙ sym (new-prefix-forget (s′ .pool) n′ repair′)
         in
         let u : forgetField (n .uri) ≡ forgetField (n′ .uri) = ap (λ (m : Node). m .uri) same in
         let d : map forget (newRows e after (n .uri) repair) ≡ map forget (newRows e after′ (n′ .uri) repair′) =
-            new-rows-forget e after (n .uri) repair
-            ∙ ap (λ (g : Field). newRows e g (forgetField (n .uri)) (forgetRepair repair)) f
-            ∙ ap (λ (g : Field). newRows e (forgetField after′) g (forgetRepair repair)) u
-            ∙ ap (newRows e (forgetField after′) (forgetField (n′ .uri))) r
-            ∙ sym (new-rows-forget e after′ (n′ .uri) repair′)
+        new-rows-forget e after (n .uri) repair
+        ∙ ap (λ (g : Field). newRows e g (forgetField (n .uri)) (forgetRepair repair)) f
+        ∙ ap (λ (g : Field). newRows e (forgetField after′) g (forgetRepair repair)) u
+        ∙ ap (newRows e (forgetField after′) (forgetField (n′ .uri))) r
+        ∙ sym (new-rows-forget e after′ (n′ .uri) repair′)
         in
         appended-alike (set (s .rows) a (withPrefix after n)) (set (s′ .rows) a (withPrefix after′ n′)) (newRows e after (n .uri) repair) (newRows e after′ (n′ .uri) repair′)
         (closed-prefixed a (s .rows) after small c) (closed-prefixed a (s′ .rows) after′ small c′) d
@@ -364,10 +364,12 @@ module _ (total : ℕ) (path : ℕ → Bool) where
       where
         is-attribute : (n : Node) → isAttributeOf e n ≡ true → n .type ≡ 2
         is-attribute n q = eqb-true (n .type) 2 (both-true (eqb (n .type) 2) (eqb (n .parent) e) q .0)
+
         is-owned : (n : Node) → isAttributeOf e n ≡ true → Owned n
         is-owned n q =
             let t = both-true (eqb (n .type) 2) (eqb (n .parent) e) q in
             (rw (t .0) refl, rw (eqb-true (n .parent) e (t .1)) p)
+
         alike-attribute : (n m : Node) → forget n ≡ forget m → isAttributeOf e n ≡ isAttributeOf e m
         alike-attribute n m same = ap (isAttributeOf e) same
 
@@ -421,5 +423,5 @@ module _ (total : ℕ) (path : ℕ → Bool) where
       record {
         closed = closed-kept count (t .rows) (normalizeRow total count t .rows) (b .closed) (kept-row total count t (lt-of-lt-of-le small (b .closed .long)) (b .closed .long));
         closed′ = closed-kept count (t′ .rows) (normalizeRow total count t′ .rows) (b .closed′) (kept-row total count t′ (lt-of-lt-of-le small (b .closed′ .long)) (b .closed′ .long));
-        alike = row-alike count t t′ small (b .closed) (b .closed′) (b .alike)
+        alike = row-alike count t t′ small (b .closed) (b .closed′) (b .alike);
       }

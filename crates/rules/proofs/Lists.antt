@@ -29,6 +29,13 @@ both-true false b e = absurd (true≢false (sym e))
 pub true-both : {a b : Bool} → a ≡ true → b ≡ true → (a && b) ≡ true
 true-both {a} {b} p q = rw (p, q) refl
 
+pub either-left : {a : Bool} (b : Bool) → a ≡ true → (a || b) ≡ true
+either-left {a} b e = rw e refl
+
+pub either-right : (a : Bool) {b : Bool} → b ≡ true → (a || b) ≡ true
+either-right true e = refl
+either-right false e = e
+
 pub right-false : (a b : Bool) → (a && b) ≡ false → a ≡ true → b ≡ false
 right-false true b e t = e
 right-false false b e t = absurd (true≢false (sym t))

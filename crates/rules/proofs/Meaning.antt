@@ -133,7 +133,7 @@ perform-keep : (e a : ℕ) (s : State) → perform e a keep s ≡ s
 unfolding perform newPrefix newRows newBytes node
 perform-keep e a s =
     let rows : set (s .rows) a (withPrefix (getD (s .rows) a noNode .prefix) (getD (s .rows) a noNode)) ++ [] ≡ s .rows =
-        append-nil (set (s .rows) a (getD (s .rows) a noNode)) ∙ set-getD (s .rows) a noNode
+    append-nil (set (s .rows) a (getD (s .rows) a noNode)) ∙ set-getD (s .rows) a noNode
     in
     rw (rows, append-nil (s .pool)) refl
 
@@ -200,7 +200,7 @@ module _ (total e : ℕ) (before : List Node) (within : e < length before) (long
           sound = h .sound;
           kept = h .kept;
           element = h .element;
-          attributes = λ a i t o. go a t o (one-more a count i)
+          attributes = λ a i t o. go a t o (one-more a count i);
         }
       where
         go : (a : ℕ) → node (s .rows) a .type ≡ 2 → node (s .rows) a .parent ≡ e → (a ≡ count) ⊎ (a < count) → AttributeMeans (s .rows) e a
@@ -259,7 +259,7 @@ module _ (total e : ℕ) (before : List Node) (within : e < length before) (long
             sound = sound-perform e count repair s attribute full (h .sound);
             kept = kept-trans (h .kept) kept-next;
             element = element-next;
-            attributes = λ a i t o. go a t o (one-more a count i)
+            attributes = λ a i t o. go a t o (one-more a count i);
           }
         where
           go : (a : ℕ) → node (next .rows) a .type ≡ 2 → node (next .rows) a .parent ≡ e → (a ≡ count) ⊎ (a < count) → AttributeMeans (next .rows) e a
@@ -284,7 +284,7 @@ module _ (total e : ℕ) (before : List Node) (within : e < length before) (long
         sound = h .sound;
         kept = h .kept;
         element = h .element;
-        attributes = λ a i t o. go q a t o (one-more a count i)
+        attributes = λ a i t o. go q a t o (one-more a count i);
       }))
     where
       go : isAttributeOf e (node (s .rows) count) ≡ false → (a : ℕ) → node (s .rows) a .type ≡ 2 → node (s .rows) a .parent ≡ e → (a ≡ count) ⊎ (a < count) → AttributeMeans (s .rows) e a
@@ -317,12 +317,13 @@ module _ (base : List Node) (good : (e : ℕ) → e < length base → node base 
         core = h .core;
         fixed = h .fixed;
         elements = λ e i t. element e t (one-more e count i);
-        attributes = λ a i t p o. attribute a i t o (one-more (node base a .parent) count p)
+        attributes = λ a i t p o. attribute a i t o (one-more (node base a .parent) count p);
       }
     where
       element : (e : ℕ) → node base e .type ≡ 1 → (e ≡ count) ⊎ (e < count) → ElementMeans (s .rows) e
       element e t (inl z) = absurd (other (subst (λ (r : ℕ). node base r .type ≡ 1) z t))
       element e t (inr z) = h .elements e z t
+
       attribute : (a : ℕ) → a < length base → node base a .type ≡ 2 → node base (node base a .parent) .type ≡ 1 → (node base a .parent ≡ count) ⊎ (node base a .parent < count) → AttributeMeans (s .rows) (node base a .parent) a
       attribute a i t o (inl z) = absurd (other (subst (λ (r : ℕ). node base r .type ≡ 1) z o))
       attribute a i t o (inr z) = h .attributes a i t z o
@@ -356,15 +357,16 @@ module _ (base : List Node) (good : (e : ℕ) → e < length base → node base 
           sound = done .sound;
           core = λ r i. core-trans (h .core r i) (done .kept .core r (in-rows r i));
           fixed = λ r i t.
-            let not-its : isOwnedBy count (node (s .rows) r) ≡ false = rw (h .core r i .type, t) refl in
-            done .kept .rows r (in-rows r i) not-its ∙ h .fixed r i t;
+              let not-its : isOwnedBy count (node (s .rows) r) ≡ false = rw (h .core r i .type, t) refl in
+              done .kept .rows r (in-rows r i) not-its ∙ h .fixed r i t;
           elements = λ e i t. go-element e t (one-more e count i);
-          attributes = λ a i t p o. go-attribute a i t o (one-more (node base a .parent) count p)
+          attributes = λ a i t p o. go-attribute a i t o (one-more (node base a .parent) count p);
         }
       where
         go-element : (e : ℕ) → node base e .type ≡ 1 → (e ≡ count) ⊎ (e < count) → ElementMeans (s′ .rows) e
         go-element e t (inl z) = subst (λ (r : ℕ). ElementMeans (s′ .rows) r) (sym z) (done .element)
         go-element e t (inr z) = element-earlier e z t
+
         go-attribute : (a : ℕ) → a < length base → node base a .type ≡ 2 → node base (node base a .parent) .type ≡ 1 → (node base a .parent ≡ count) ⊎ (node base a .parent < count) → AttributeMeans (s′ .rows) (node base a .parent) a
         go-attribute a i t o (inl z) =
             let c = core-trans (h .core a i) (done .kept .core a (in-rows a i)) in
@@ -389,7 +391,7 @@ module _ (base : List Node) (good : (e : ℕ) → e < length base → node base 
         sound = sound-element (length base) count (s .rows) within (h .long) now named (h .sound);
         kept = kept-element (length base) count (s .rows) within (h .long) now;
         element = element-means (length base) count (s .rows) within (h .long) now named;
-        attributes = λ a i t o. absurd (not-suc-le-zero i)
+        attributes = λ a i t o. absurd (not-suc-le-zero i);
       }))))
       (λ q. rw q (skip-row count s (λ t. true-not-false (eq-eqb (node (s .rows) count .type) 1 (h .core count small .type ∙ t)) q) h))
 

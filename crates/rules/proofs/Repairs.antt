@@ -275,7 +275,7 @@ module _ (scope : List Node) (a : Node) (legal : allOf isLegal scope ≡ true) (
         full = numbered-not-empty k;
         notXml = numbered-not-xml k;
         notXmlns = numbered-not-xmlns k;
-        undeclared = firstThat-none (declares (numberedPrefix k)) scope (least-free scope 1)
+        undeclared = firstThat-none (declares (numberedPrefix k)) scope (least-free scope 1);
       }))
 
   served-binding : (b : Binding) → inScopePrefix scope (a .uri .bytes) ≡ b → Served scope a (repairBy b (repairByDeclaring scope a))

@@ -57,8 +57,8 @@ in-pool-grown pool more f e =
     let both = both-true (leb (f .offset + f .size) (length pool)) (sameBytes (f .bytes) (part pool (f .offset) (f .size))) e in
     let h = leb-true (f .offset + f .size) (length pool) (both .0) in
     let same : part (pool ++ more) (f .offset) (f .size) ≡ part pool (f .offset) (f .size) =
-        ap (take (f .size)) (drop-append-le (f .offset) pool more (omega arith))
-        ∙ take-append-le (f .size) (drop (f .offset) pool) more (rw length-drop (omega arith))
+    ap (take (f .size)) (drop-append-le (f .offset) pool more (omega arith))
+    ∙ take-append-le (f .size) (drop (f .offset) pool) more (rw length-drop (omega arith))
     in
     true-both (le-leb (f .offset + f .size) (length (pool ++ more)) (rw length-append (omega arith))) (rw same (both .1))
 
@@ -70,7 +70,7 @@ fits-grown pool more n e =
       prefix = in-pool-grown pool more (n .prefix) (f .prefix);
       local = in-pool-grown pool more (n .local) (f .local);
       uri = in-pool-grown pool more (n .uri) (f .uri);
-      value = in-pool-grown pool more (n .value) (f .value)
+      value = in-pool-grown pool more (n .value) (f .value);
     })
 
 in-pool-new : (pool bytes : List ℕ) → inPool (pool ++ bytes) (record { offset = length pool; size = length bytes; bytes = bytes }) ≡ true
@@ -223,7 +223,7 @@ pool-attribute total e a s i h =
     rw q
     (record {
       long = le-trans (h .long) (longer-perform e a repair s);
-      fit = fits-perform e a repair s (lt-of-lt-of-le i (h .long)) (pooled (s .pool) (scopeAt (s .rows) e) (node (s .rows) a) (fits-scope (s .pool) (s .rows) e (h .fit))) (h .fit)
+      fit = fits-perform e a repair s (lt-of-lt-of-le i (h .long)) (pooled (s .pool) (scopeAt (s .rows) e) (node (s .rows) a) (fits-scope (s .pool) (s .rows) e (h .fit))) (h .fit);
     }))
     (λ q. rw q h)
 
@@ -241,7 +241,7 @@ pool-row total r s i h =
     (pool-attributes total r total (record { rows = repairElement r (s .rows); pool = s .pool }) (le-refl total)
     (record {
       long = le-trans (h .long) (longer-element r (s .rows));
-      fit = fits-element (s .pool) r (s .rows) (lt-of-lt-of-le i (h .long)) (h .fit)
+      fit = fits-element (s .pool) r (s .rows) (lt-of-lt-of-le i (h .long)) (h .fit);
     })))
     (λ q. rw q h)
 
@@ -354,5 +354,5 @@ input-pool table pool a =
       prefix = field-in-pool table pool r 2 (subst (λ (n : Node). FieldAccepted (length pool) (n .prefix)) same (f .prefix));
       local = field-in-pool table pool r 4 (subst (λ (n : Node). FieldAccepted (length pool) (n .local)) same (f .local));
       uri = field-in-pool table pool r 6 (subst (λ (n : Node). FieldAccepted (length pool) (n .uri)) same (f .uri));
-      value = field-in-pool table pool r 8 (subst (λ (n : Node). FieldAccepted (length pool) (n .value)) same (f .value))
+      value = field-in-pool table pool r 8 (subst (λ (n : Node). FieldAccepted (length pool) (n .value)) same (f .value));
     })))

@@ -29,9 +29,9 @@ module _ {B : Type 0} (P : ℕ → Type 0) (ns ms : List Node) (g h : ℕ → Li
   gathered-climb (suc steps) r p =
       rw (tree r p .0, tree r p .1)
       (let outward : gathered g (cond (ltb (node ns r .parent) r) (climb steps ms (node ns r .parent)) []) ≡ gathered h (cond (ltb (node ns r .parent) r) (climb steps ns (node ns r .parent)) []) =
-          by-cases (ltb (node ns r .parent) r)
-          (λ q. rw q (gathered-climb steps (node ns r .parent) (closed r p (ltb-true (node ns r .parent) r q))))
-          (λ q. rw q refl)
+      by-cases (ltb (node ns r .parent) r)
+      (λ q. rw q (gathered-climb steps (node ns r .parent) (closed r p (ltb-true (node ns r .parent) r q))))
+      (λ q. rw q refl)
       in
       by-cases (isElement (node ns r .type))
       (λ q. rw (q, same r p, outward) refl)
@@ -85,7 +85,7 @@ kept-refl total e ns =
       core = λ r h. core-refl (node ns r);
       rows = λ r h o. refl;
       own = λ x h. refl;
-      added = λ x h. refl
+      added = λ x h. refl;
     }
 
 pub kept-trans : {total e : ℕ} {ns ms ls : List Node} → Kept total e ns ms → Kept total e ms ls → Kept total e ns ls
@@ -94,10 +94,10 @@ kept-trans {total} {e} {ns} {ms} {ls} p q =
       count = le-trans (p .count) (q .count);
       core = λ r h. core-trans (p .core r h) (q .core r (lt-of-lt-of-le h (p .count)));
       rows = λ r h o.
-        let same = p .rows r h o in
-        q .rows r (lt-of-lt-of-le h (p .count)) (subst (λ (n : Node). isOwnedBy e n ≡ false) (sym same) o) ∙ same;
+          let same = p .rows r h o in
+          q .rows r (lt-of-lt-of-le h (p .count)) (subst (λ (n : Node). isOwnedBy e n ≡ false) (sym same) o) ∙ same;
       own = λ x h. q .own x h ∙ p .own x h;
-      added = λ x h. q .added x h ∙ p .added x h
+      added = λ x h. q .added x h ∙ p .added x h;
     }
 
 pub node-append : (ns ms : List Node) (r : ℕ) → r < length ns → node (ns ++ ms) r ≡ node ns r
@@ -131,9 +131,9 @@ kept-append total e ns prefix uri t =
       rows = λ r h o. node-append ns (d ∷ []) r h;
       own = λ x h. filtered-append (isDeclarationOf x) ns (d ∷ []) ∙ rw (not-other e x h) (append-nil (filtered (isDeclarationOf x) ns));
       added = λ x h.
-        rw (drop-append-le total ns (d ∷ []) t)
-        (filtered-append (λ (n : Node). eqb (n .parent) x) (drop total ns) (d ∷ [])
-        ∙ rw (not-other e x h) (append-nil (filtered (λ (n : Node). eqb (n .parent) x) (drop total ns))))
+          rw (drop-append-le total ns (d ∷ []) t)
+          (filtered-append (λ (n : Node). eqb (n .parent) x) (drop total ns) (d ∷ [])
+          ∙ rw (not-other e x h) (append-nil (filtered (λ (n : Node). eqb (n .parent) x) (drop total ns))));
     }
 
 -- An own declaration is a declaration of e with that prefix.
@@ -170,18 +170,18 @@ kept-revalued total e ns prefix uri =
       count = rw (length-map ns f) (le-refl (length ns));
       core = λ r h. rw (node-map f ns r h) (revalued-core e prefix uri (node ns r));
       rows = λ r h o.
-        node-map f ns r h
-        ∙ revalued-other e prefix uri (node ns r)
-        (λ t. let q : isOwnedBy e (node ns r) ≡ true = rw (t .0, eq-eqb (node ns r .parent) e (t .1)) refl in true-not-false q o);
+          node-map f ns r h
+          ∙ revalued-other e prefix uri (node ns r)
+          (λ t. let q : isOwnedBy e (node ns r) ≡ true = rw (t .0, eq-eqb (node ns r .parent) e (t .1)) refl in true-not-false q o);
       own = λ x h.
-        filtered-map-same (isDeclarationOf x) f ns (keeps x)
-        (λ n q. revalued-other e prefix uri n
-        (λ t. h (sym (eqb-true (n .parent) x (both-true (eqb (n .type) 13) (eqb (n .parent) x) q .1)) ∙ t .1)));
+          filtered-map-same (isDeclarationOf x) f ns (keeps x)
+          (λ n q. revalued-other e prefix uri n
+          (λ t. h (sym (eqb-true (n .parent) x (both-true (eqb (n .type) 13) (eqb (n .parent) x) q .1)) ∙ t .1)));
       added = λ x h.
-        ap (filtered (λ (n : Node). eqb (n .parent) x)) (drop-map f total ns)
-        ∙ filtered-map-same (λ (n : Node). eqb (n .parent) x) f (drop total ns)
-        (λ n. rw (revalued-core e prefix uri n .parent) refl)
-        (λ n q. revalued-other e prefix uri n (λ t. h (sym (eqb-true (n .parent) x q) ∙ t .1)))
+          ap (filtered (λ (n : Node). eqb (n .parent) x)) (drop-map f total ns)
+          ∙ filtered-map-same (λ (n : Node). eqb (n .parent) x) f (drop total ns)
+          (λ n. rw (revalued-core e prefix uri n .parent) refl)
+          (λ n q. revalued-other e prefix uri n (λ t. h (sym (eqb-true (n .parent) x q) ∙ t .1)));
     }
 
 -- An attribute's prefix is nothing to any element's declarations.
@@ -198,15 +198,15 @@ kept-prefix total e ns a prefix h t ty pa =
     record {
       count = rw (length-set ns a v) (le-refl (length ns));
       core = λ r i.
-        by-cases (eqb r a)
-        (λ q. rw (eqb-true r a q, node-set-same ns a v (lt-of-lt-of-le h t)) (record { type = refl; parent = refl; local = refl; uri = refl }))
-        (λ q. core-equal (node-set-other ns a r v (λ z. true-not-false (eq-eqb r a z) q)));
+          by-cases (eqb r a)
+          (λ q. rw (eqb-true r a q, node-set-same ns a v (lt-of-lt-of-le h t)) (record { type = refl; parent = refl; local = refl; uri = refl }))
+          (λ q. core-equal (node-set-other ns a r v (λ z. true-not-false (eq-eqb r a z) q)));
       rows = λ r i o.
-        by-cases (eqb r a)
-        (λ q.
-        let owned : isOwnedBy e (node ns r) ≡ true = rw (eqb-true r a q, ty, eq-eqb (node ns a .parent) e pa) refl in
-        absurd (true-not-false owned o))
-        (λ q. node-set-other ns a r v (λ z. true-not-false (eq-eqb r a z) q));
+          by-cases (eqb r a)
+          (λ q.
+          let owned : isOwnedBy e (node ns r) ≡ true = rw (eqb-true r a q, ty, eq-eqb (node ns a .parent) e pa) refl in
+          absurd (true-not-false owned o))
+          (λ q. node-set-other ns a r v (λ z. true-not-false (eq-eqb r a z) q));
       own = λ x i. own-prefix ns a x prefix ty;
-      added = λ x i. ap (filtered (λ (n : Node). eqb (n .parent) x)) (drop-set-lt total ns a v h)
+      added = λ x i. ap (filtered (λ (n : Node). eqb (n .parent) x)) (drop-set-lt total ns a v h);
     }

@@ -133,9 +133,9 @@ unfoldable pub perform : ℕ → ℕ → Repair → State → State
 perform e a repair s =
     record {
       rows =
-        set (s .rows) a (withPrefix (newPrefix (s .pool) (node (s .rows) a) repair) (node (s .rows) a))
-        ++ newRows e (newPrefix (s .pool) (node (s .rows) a) repair) (node (s .rows) a .uri) repair;
-      pool = s .pool ++ newBytes repair
+          set (s .rows) a (withPrefix (newPrefix (s .pool) (node (s .rows) a) repair) (node (s .rows) a))
+          ++ newRows e (newPrefix (s .pool) (node (s .rows) a) repair) (node (s .rows) a .uri) repair;
+      pool = s .pool ++ newBytes repair;
     }
 
 abbrev pub isAttributeOf : ℕ → Node → Bool
