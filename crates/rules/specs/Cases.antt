@@ -1,5 +1,5 @@
--- Document 01, "Rehearsal list": the marked cases, and one case for each of "Easy to get wrong" that they leave out. Each is
--- an input, the sizes of the two outputs, and the whole outcome.
+-- Document 01, "Rehearsal list": the marked cases, and before them one for each of "Easy to get wrong" that they leave out.
+-- Each is an input, the sizes of the two outputs, and the whole outcome.
 use Prim.Native.Nat.{ℕ}
 use mathlib.Core.Bool.{Bool, true, _&&_}
 use mathlib.Core.List.{List, [], _∷_, _++_}
@@ -91,8 +91,14 @@ namesabp = ascii "abpUV"
 
 unfoldable pub cases : List Case
 cases =
+    -- the attribute's prefix is in scope with another URI: NS1
+    record { table = conflicting (2, 1); pool = namesabp; tableSize = 40; poolSize = 8; answer = 0 ∷ 0 ∷ 4 ∷ 8 ∷ []; outTable = conflicting (5, 3) ++ row 13 0 (0, 0) (5, 3) (0, 0) (4, 1); outPool = namesabp ++ ascii "NS1" }
+    -- a nearer declaration rebinds the prefix: NS1
+    ∷ record { table = rebound (0, 0); pool = namesabp; tableSize = 60; poolSize = 8; answer = 0 ∷ 0 ∷ 6 ∷ 8 ∷ []; outTable = rebound (5, 3) ++ row 13 2 (0, 0) (5, 3) (0, 0) (3, 1); outPool = namesabp ++ ascii "NS1" }
+    -- the default declaration does not serve an attribute: NS1
+    ∷ record { table = defaulted (0, 0); pool = namesabp; tableSize = 40; poolSize = 8; answer = 0 ∷ 0 ∷ 4 ∷ 8 ∷ []; outTable = defaulted (5, 3) ++ row 13 0 (0, 0) (5, 3) (0, 0) (3, 1); outPool = namesabp ++ ascii "NS1" }
     -- M1: A
-    record { table = exampleA; pool = ascii "aU"; tableSize = 20; poolSize = 2; answer = 0 ∷ 0 ∷ 2 ∷ 2 ∷ []; outTable = exampleA ++ row 13 0 (0, 0) (0, 0) (0, 0) (1, 1); outPool = ascii "aU" }
+    ∷ record { table = exampleA; pool = ascii "aU"; tableSize = 20; poolSize = 2; answer = 0 ∷ 0 ∷ 2 ∷ 2 ∷ []; outTable = exampleA ++ row 13 0 (0, 0) (0, 0) (0, 0) (1, 1); outPool = ascii "aU" }
     -- M2: B, with room left over
     ∷ record { table = exampleB; pool = ascii "aUb"; tableSize = 37; poolSize = 8; answer = 0 ∷ 0 ∷ 3 ∷ 6 ∷ []; outTable = exampleB′ ++ replicate 7 0; outPool = ascii "aUbNS1" ++ replicate 2 0 }
     -- M3: an empty table
@@ -116,12 +122,6 @@ cases =
     ∷ record { table = row 1 NONE (0, 0) (0, 1) (0, 0) (0, 0) ++ row 13 0 (0, 0) (1, 1) (0, 0) (0, 0); pool = ascii "ap"; tableSize = 20; poolSize = 2; answer = 6 ∷ 1 ∷ 0 ∷ 0 ∷ []; outTable = replicate 20 0; outPool = replicate 2 0 }
     -- M12: a row that is its own parent
     ∷ record { table = row 1 0 (0, 0) (0, 1) (0, 0) (0, 0); pool = ascii "a"; tableSize = 10; poolSize = 1; answer = 2 ∷ 0 ∷ 0 ∷ 0 ∷ []; outTable = replicate 10 0; outPool = replicate 1 0 }
-    -- a nearer declaration rebinds the prefix: NS1
-    ∷ record { table = rebound (0, 0); pool = namesabp; tableSize = 60; poolSize = 8; answer = 0 ∷ 0 ∷ 6 ∷ 8 ∷ []; outTable = rebound (5, 3) ++ row 13 2 (0, 0) (5, 3) (0, 0) (3, 1); outPool = namesabp ++ ascii "NS1" }
-    -- the default declaration does not serve an attribute: NS1
-    ∷ record { table = defaulted (0, 0); pool = namesabp; tableSize = 40; poolSize = 8; answer = 0 ∷ 0 ∷ 4 ∷ 8 ∷ []; outTable = defaulted (5, 3) ++ row 13 0 (0, 0) (5, 3) (0, 0) (3, 1); outPool = namesabp ++ ascii "NS1" }
-    -- the attribute's prefix is in scope with another URI: NS1
-    ∷ record { table = conflicting (2, 1); pool = namesabp; tableSize = 40; poolSize = 8; answer = 0 ∷ 0 ∷ 4 ∷ 8 ∷ []; outTable = conflicting (5, 3) ++ row 13 0 (0, 0) (5, 3) (0, 0) (4, 1); outPool = namesabp ++ ascii "NS1" }
     ∷ []
 
 -- Every case comes out as document 01 says.
