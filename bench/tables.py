@@ -1,0 +1,143 @@
+#!/usr/bin/env python3
+"""Writes the tables that bench/measure counts instructions on.
+
+Usage: bench/tables.py DIR
+
+Each file holds, as little-endian 32-bit words, the number of words and of pool bytes, then the words, then the pool.
+The tables are the same in every run: the generator is seeded, and uses only its own arithmetic.
+"""
+import struct
+import sys
+
+NONE = 4294967295
+NOTHING = (0, 0)
+URIS = ["http://www.example.org/" + name for name in ("orders", "parts", "people", "2026/schema")]
+PREFIXES = ["o", "p", "per", "s"]
+WORDS = ["order", "item", "part", "name", "address", "city", "note", "price", "quantity", "customer", "id", "date",
+         "lang", "class", "href", "type", "unit"]
+
+
+class Numbers:
+    """Numbers that only look random: a linear congruential generator."""
+
+    def __init__(self, seed):
+        self.state = seed
+
+    def below(self, n):
+        self.state = (self.state * 6364136223846793005 + 1442695040888963407) % 2**64
+        return (self.state >> 33) % n
+
+
+class Table:
+    def __init__(self):
+        self.rows, self.pool, self.places = [], bytearray(), {}
+
+    def place(self, text):
+        """Where the pool holds the text, which is put there once."""
+        if text not in self.places:
+            self.places[text] = (len(self.pool), len(text))
+            self.pool += text.encode()
+        return self.places[text]
+
+    def add(self, kind, parent, prefix=NOTHING, local=NOTHING, uri=NOTHING, value=NOTHING):
+        self.rows.append((kind, parent, *prefix, *local, *uri, *value))
+        return len(self.rows) - 1
+
+    def write(self, path):
+        words = [word for row in self.rows for word in row]
+        with open(path, "wb") as out:
+            out.write(struct.pack("<II", len(words), len(self.pool)))
+            out.write(struct.pack("<%dI" % len(words), *words))
+            out.write(self.pool)
+
+
+def start(table):
+    """A document, its element, and that element's declarations."""
+    document = table.add(9, NONE)
+    root = table.add(1, document, table.place(PREFIXES[0]), table.place("orders"), table.place(URIS[0]))
+    for prefix, uri in zip(PREFIXES, URIS):
+        table.add(13, root, local=table.place(prefix), value=table.place(uri))
+    return root
+
+
+def add_attribute(table, numbers, owner, word):
+    value = table.place("value%d" % numbers.below(200))
+    if numbers.below(3) == 0:
+        k = numbers.below(4)
+        table.add(2, owner, table.place(PREFIXES[k]), table.place(word), table.place(URIS[k]), value)
+    else:
+        table.add(2, owner, local=table.place(word), value=value)
+
+
+def ordinary(rows):
+    """Elements with prefixes and up to three attributes, texts, now and then a declaration or a comment."""
+    table, numbers = Table(), Numbers(1)
+    elements = [start(table)]
+    while len(table.rows) < rows:
+        parent = elements[-1 - numbers.below(min(8, len(elements)))]
+        what = numbers.below(100)
+        if what < 35:
+            k = numbers.below(4)
+            element = table.add(1, parent, table.place(PREFIXES[k]), table.place(WORDS[numbers.below(17)]), table.place(URIS[k]))
+            elements.append(element)
+            first = numbers.below(17)
+            for i in range(numbers.below(4)):
+                add_attribute(table, numbers, element, WORDS[(first + i) % 17])
+        elif what < 38:
+            table.add(13, elements[-1], local=table.place("d%d" % len(table.rows)), value=table.place(URIS[numbers.below(4)]))
+        elif what < 41:
+            table.add(8, parent, value=table.place("a comment"))
+        else:
+            table.add(3, parent, value=table.place("text %d" % numbers.below(500)))
+    del table.rows[rows:]
+    return table
+
+
+def apart(rows):
+    """Elements first; then, element by element and round after round, their attributes."""
+    table, numbers = Table(), Numbers(2)
+    root = start(table)
+    elements = [root] + [table.add(1, root, local=table.place(WORDS[numbers.below(17)])) for _ in range(rows // 4)]
+    turn = 0
+    while len(table.rows) < rows:
+        add_attribute(table, numbers, elements[turn % len(elements)], "%s%d" % (WORDS[numbers.below(17)], turn // len(elements)))
+        turn += 1
+    return table
+
+
+def one_owner(rows):
+    """All attributes at one element, with names of one length that differ in the last byte read."""
+    table = Table()
+    root = start(table)
+    while len(table.rows) < rows:
+        table.add(2, root, local=table.place("attribute%04d" % len(table.rows)))
+    return table
+
+
+def texts(rows):
+    """Texts under one element."""
+    table = Table()
+    root = start(table)
+    while len(table.rows) < rows:
+        table.add(3, root, value=table.place("text"))
+    return table
+
+
+def long_names(rows):
+    """Names that fill the pool."""
+    table = Table()
+    root = start(table)
+    while len(table.rows) < rows:
+        table.add(1, root, local=table.place("element-%s-%04d" % ("x" * 18, len(table.rows))))
+    return table
+
+
+def main():
+    if len(sys.argv) != 2:
+        sys.exit(__doc__)
+    for make in (ordinary, apart, one_owner, texts, long_names):
+        for rows in (500, 1000):
+            make(rows).write("%s/%s-%d" % (sys.argv[1], make.__name__, rows))
+
+
+main()

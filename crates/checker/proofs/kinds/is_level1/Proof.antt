@@ -1,0 +1,12 @@
+-- `kinds::is_level1` meets its contract.
+-- Assumes nothing.
+use lib.Dec.{eqb}
+use Rattle.checker.proofs.OneOf.{or2}
+use Rattle.checker.proofs.kinds.is_level1.Statement.{statement}
+use Rattle.checker.proofs.kinds.is_level1.Tie as tie
+
+returns : tie.Need-returns
+returns c = or2 (eqb (c .args .kind) 257) (eqb (c .args .kind) 258)
+
+pub is-level1-spec : {M : Type 1} → statement M
+is-level1-spec = tie.close (tie.spec returns)
