@@ -2,6 +2,8 @@
 // cases stand in the standard input, one to a line: the operation, the case's name and what the operation is run
 // on, with `|` between two of them. A line that names no operation is printed as it is.
 mod check_cases;
+mod lookup_cases;
+mod lookup_report;
 mod parts;
 mod report;
 mod words;
@@ -26,6 +28,14 @@ fn case(line: &[u8]) {
     let operation = parts::head(line);
     if names::same(operation, b"check") {
         check_cases::case(parts::tail(line));
+        return;
+    }
+    if names::same(operation, b"lookups") {
+        lookup_cases::case(parts::tail(line));
+        return;
+    }
+    if names::same(operation, b"parts") {
+        lookup_cases::part_case(parts::tail(line));
         return;
     }
     io::write_all(1, line);

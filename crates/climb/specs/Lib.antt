@@ -1,0 +1,2 @@
+-- Rows that may be missing, as numbers.
+pub mod Found

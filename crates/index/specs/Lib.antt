@@ -1,0 +1,2 @@
+-- What the links of an owner's rows mean.
+pub mod Links

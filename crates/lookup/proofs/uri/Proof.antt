@@ -1,0 +1,51 @@
+-- `lookup::uri` meets its contract.
+-- Assumes nothing.
+use mathlib.Core.Path.{refl, _∙_}
+use borrow.Author.Needs.{needs}
+use Rattle.lookup.proofs.Started.{start-asked, admitted-few, start-none, start-some, start-ready}
+use Rattle.lookup.proofs.Answered.{uri-nothing, uri-at}
+use Rattle.lookup.proofs.uri.Statement.{statement}
+use Rattle.lookup.proofs.uri.Tie as tie
+
+start-requires : tie.Need-start-requires
+start-requires c κs = start-asked _ _ _ (c .before .before .before .pre)
+
+returns : tie.Need-returns
+returns c = uri-nothing _ _ (start-none _ _ _ (c .before .before .before .before .before .before .pre) _ (c .before .before .start .ensures (c .before .before .before .before .before .before .args .pool .now)) (c .if1 .taken)) _
+
+slice-aggregate-link-declarations : tie.Need-slice-aggregate-link-declarations
+slice-aggregate-link-declarations c = search needs
+
+slice-aggregate-link-declarations-2 : tie.Need-slice-aggregate-link-declarations-2
+slice-aggregate-link-declarations-2 c = search needs
+
+link-declarations-requires : tie.Need-link-declarations-requires
+link-declarations-requires c κs = (admitted-few _ _ _ (c .before .before .before .before .before .before .before .before .pre), (refl, refl))
+
+slice-aggregate-uri-of-prefix : tie.Need-slice-aggregate-uri-of-prefix
+slice-aggregate-uri-of-prefix c = search needs
+
+slice-aggregate-uri-of-prefix-2 : tie.Need-slice-aggregate-uri-of-prefix-2
+slice-aggregate-uri-of-prefix-2 c = search needs
+
+uri-of-prefix-requires : tie.Need-uri-of-prefix-requires
+uri-of-prefix-requires c κs =
+    (c .before .before .before .before .link-declarations .ensures, start-ready _ _ _ (c .before .before .before .before .before .before .before .before .before .before .before .before .before .pre) _ (c .before .before .before .before .before .before .before .before .before .start .ensures (c .before .before .before .before .before .before .before .before .before .before .before .before .before .args .pool .now)) (c .before .before .before .before .before .before .before .if1 .left))
+
+returns-2 : tie.Need-returns-2
+returns-2 c =
+    c .uri-of-prefix .ensures ∙ uri-at _ _ _ (start-some _ _ _ (c .before .before .before .before .before .before .before .before .before .before .before .before .before .before .pre) _ (c .before .before .before .before .before .before .before .before .before .before .start .ensures (c .before .before .before .before .before .before .before .before .before .before .before .before .before .before .args .pool .now)) (c .before .before .before .before .before .before .before .before .if1 .left)) _
+
+pub uri-spec : {M : Type 1} → statement M
+uri-spec =
+    tie.close
+    (tie.spec
+    start-requires
+    returns
+    slice-aggregate-link-declarations
+    slice-aggregate-link-declarations-2
+    link-declarations-requires
+    slice-aggregate-uri-of-prefix
+    slice-aggregate-uri-of-prefix-2
+    uri-of-prefix-requires
+    returns-2)

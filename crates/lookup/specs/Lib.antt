@@ -1,0 +1,2 @@
+-- The verdict on a lookup's arguments.
+pub mod Verdict

@@ -1,0 +1,279 @@
+// What is in scope at an element: the in-scope URI of a prefix, and the in-scope prefix of a URI. The
+// declarations of the element and of its ancestor elements are found by links; a row that is not
+// there is NONE.
+ghost use mathlib.Core.Path.{_≡_};
+ghost use mathlib.Core.Bool.{true};
+ghost use Prim.Native.Nat.{ℕ, _<_};
+ghost use mathlib.Core.List.{List};
+ghost use lib.ListN.{length};
+ghost use Rattle.rules.specs.Lists.{firstThat, sameBytes};
+ghost use Rattle.rules.specs.Table.{nodes, nodeAt};
+ghost use Rattle.rules.specs.Lookups.{ownDeclarations, declares, scopeAt, orUnbound, valueOf, inScopeUri, uriBytes, serves, prefixOf, inScopePrefix, bound};
+ghost use Rattle.climb.specs.Found.{found};
+ghost use Rattle.scope.specs.Ready.{Ready, Element, placeAt};
+use climb::NONE;
+use rules::InScope;
+use rules::Offset;
+use rules::Place;
+use rules::Row;
+
+fn wide(x: u32) -> usize
+    ensures { λ r. ⌜ r ≡ x ⌝ }
+{
+    x as usize
+}
+
+// The place of the field whose offset is word k of a row.
+pub fn place(table: &[u32], row: Row, k: u32) -> Place
+    requires { ⌜ k < 10 ⌝ }
+    ensures { λ r. ⌜ r ≡ placeAt (now (table .entry)) (row .0) k ⌝ }
+{
+    let offset = Offset(rows::word(table, row, k));
+    let length = rows::word(table, row, k + 1);
+    Place { offset, length }
+}
+
+// The declaration is of this prefix.
+fn declares(table: &[u32], pool: &[u8], row: Row, prefix: &[u8]) -> bool
+    ensures { λ r. ⌜ r ≡ declares (now (prefix .entry)) (nodeAt (now (table .entry)) (now (pool .entry)) (row .0)) ⌝ }
+{
+    names::same(rows::field(table, pool, row, 4), prefix)
+}
+
+// An element's own declaration of a prefix.
+pub fn own_declaration(
+    table: &[u32],
+    pool: &[u8],
+    first: &[u32],
+    next: &[u32],
+    element: Row,
+    prefix: &[u8],
+) -> Row
+    requires { ⌜ Ready (now table) (now first) (now next) ⌝ }
+    requires { ⌜ Element (now table) (element .0) ⌝ }
+    ensures { λ r. ⌜ found (nodes (now (table .entry)) (now (pool .entry))) (r .0) ≡ firstThat (declares (now (prefix .entry))) (ownDeclarations (nodes (now (table .entry)) (now (pool .entry))) (element .0)) ⌝ }
+{
+    let n = table.len() / 10;
+    let e = wide(element.0);
+    let mut r = wide(first[e]);
+    while r < n {
+        let row = Row(r as u32);
+        if declares(table, pool, row, prefix) {
+            return row;
+        }
+        r = wide(next[r]);
+    }
+    Row(NONE)
+}
+
+// The nearest declaration of a prefix in scope at an element.
+pub fn declaration(
+    table: &[u32],
+    pool: &[u8],
+    first: &[u32],
+    next: &[u32],
+    element: Row,
+    prefix: &[u8],
+) -> Row
+    requires { ⌜ Ready (now table) (now first) (now next) ⌝ }
+    requires { ⌜ Element (now table) (element .0) ⌝ }
+    ensures { λ r. ⌜ found (nodes (now (table .entry)) (now (pool .entry))) (r .0) ≡ firstThat (declares (now (prefix .entry))) (scopeAt (nodes (now (table .entry)) (now (pool .entry))) (element .0)) ⌝ }
+{
+    let own = own_declaration(table, pool, first, next, element, prefix);
+    if wide(own.0) < table.len() / 10 {
+        return own;
+    }
+    let outer = climb::ancestor(table, element);
+    if outer.0 < element.0 {
+        return declaration(table, pool, first, next, outer, prefix);
+    }
+    Row(NONE)
+}
+
+// The value of a declaration that may be missing, as an answer; an empty one is none.
+fn value(table: &[u32], pool: &[u8], row: Row) -> InScope
+    ensures { λ r. ⌜ r ≡ bound (orUnbound (valueOf (found (nodes (now (table .entry)) (now (pool .entry))) (row .0)))) ⌝ }
+{
+    if table.len() / 10 <= wide(row.0) {
+        return InScope::Nothing;
+    }
+    if rows::field(table, pool, row, 8).len() == 0 {
+        return InScope::Nothing;
+    }
+    InScope::At(place(table, row, 8))
+}
+
+// The in-scope URI of a prefix, or of the default, at an element.
+pub fn in_scope_uri(
+    table: &[u32],
+    pool: &[u8],
+    first: &[u32],
+    next: &[u32],
+    element: Row,
+    prefix: &[u8],
+) -> InScope
+    requires { ⌜ Ready (now table) (now first) (now next) ⌝ }
+    requires { ⌜ Element (now table) (element .0) ⌝ }
+    ensures { λ r. ⌜ r ≡ bound (inScopeUri (scopeAt (nodes (now (table .entry)) (now (pool .entry))) (element .0)) (now (prefix .entry))) ⌝ }
+{
+    if names::is_xml(prefix) {
+        return InScope::Xml;
+    }
+    if names::is_xmlns(prefix) {
+        return InScope::Xmlns;
+    }
+    value(
+        table,
+        pool,
+        declaration(table, pool, first, next, element, prefix),
+    )
+}
+
+// The declaration that may be missing has this value; a missing one has the empty value.
+fn has_value(table: &[u32], pool: &[u8], row: Row, uri: &[u8]) -> bool
+    ensures { λ r. ⌜ r ≡ sameBytes (uriBytes (orUnbound (valueOf (found (nodes (now (table .entry)) (now (pool .entry))) (row .0))))) (now (uri .entry)) ⌝ }
+{
+    if table.len() / 10 <= wide(row.0) {
+        return uri.len() == 0;
+    }
+    names::same(rows::field(table, pool, row, 8), uri)
+}
+
+// The in-scope URI of a prefix at an element is this one; none is the empty one.
+pub fn is_in_scope_uri(
+    table: &[u32],
+    pool: &[u8],
+    first: &[u32],
+    next: &[u32],
+    element: Row,
+    prefix: &[u8],
+    uri: &[u8],
+) -> bool
+    requires { ⌜ Ready (now table) (now first) (now next) ⌝ }
+    requires { ⌜ Element (now table) (element .0) ⌝ }
+    ensures { λ r. ⌜ r ≡ sameBytes (uriBytes (inScopeUri (scopeAt (nodes (now (table .entry)) (now (pool .entry))) (element .0)) (now (prefix .entry)))) (now (uri .entry)) ⌝ }
+{
+    if names::is_xml(prefix) {
+        return names::is_xml_uri(uri);
+    }
+    if names::is_xmlns(prefix) {
+        return names::is_xmlns_uri(uri);
+    }
+    let row = declaration(table, pool, first, next, element, prefix);
+    has_value(table, pool, row, uri)
+}
+
+// The declaration gives its prefix this URI, and so does the scope at the start element.
+fn serves(
+    table: &[u32],
+    pool: &[u8],
+    first: &[u32],
+    next: &[u32],
+    start: Row,
+    row: Row,
+    uri: &[u8],
+) -> bool
+    requires { ⌜ Ready (now table) (now first) (now next) ⌝ }
+    requires { ⌜ Element (now table) (start .0) ⌝ }
+    ensures { λ r. ⌜ r ≡ serves (scopeAt (nodes (now (table .entry)) (now (pool .entry))) (start .0)) (now (uri .entry)) (nodeAt (now (table .entry)) (now (pool .entry)) (row .0)) ⌝ }
+{
+    let prefix = rows::field(table, pool, row, 4);
+    if prefix.len() == 0 {
+        return false;
+    }
+    if names::same(rows::field(table, pool, row, 8), uri) {
+        return is_in_scope_uri(table, pool, first, next, start, prefix, uri);
+    }
+    false
+}
+
+// The first of an element's own declarations that serves at the start element.
+fn own_serving(
+    table: &[u32],
+    pool: &[u8],
+    first: &[u32],
+    next: &[u32],
+    start: Row,
+    element: Row,
+    uri: &[u8],
+) -> Row
+    requires { ⌜ Ready (now table) (now first) (now next) ⌝ }
+    requires { ⌜ Element (now table) (start .0) ⌝ }
+    requires { ⌜ Element (now table) (element .0) ⌝ }
+    ensures { λ r. ⌜ found (nodes (now (table .entry)) (now (pool .entry))) (r .0) ≡ firstThat (serves (scopeAt (nodes (now (table .entry)) (now (pool .entry))) (start .0)) (now (uri .entry))) (ownDeclarations (nodes (now (table .entry)) (now (pool .entry))) (element .0)) ⌝ }
+{
+    let n = table.len() / 10;
+    let e = wide(element.0);
+    let from = start.0;
+    let mut r = wide(first[e]);
+    while r < n {
+        let row = Row(r as u32);
+        if serves(table, pool, first, next, Row(from), row, uri) {
+            return row;
+        }
+        r = wide(next[r]);
+    }
+    Row(NONE)
+}
+
+// The first declaration from an element outward that serves at the start element.
+fn serving(
+    table: &[u32],
+    pool: &[u8],
+    first: &[u32],
+    next: &[u32],
+    start: Row,
+    element: Row,
+    uri: &[u8],
+) -> Row
+    requires { ⌜ Ready (now table) (now first) (now next) ⌝ }
+    requires { ⌜ Element (now table) (start .0) ⌝ }
+    requires { ⌜ Element (now table) (element .0) ⌝ }
+    ensures { λ r. ⌜ found (nodes (now (table .entry)) (now (pool .entry))) (r .0) ≡ firstThat (serves (scopeAt (nodes (now (table .entry)) (now (pool .entry))) (start .0)) (now (uri .entry))) (scopeAt (nodes (now (table .entry)) (now (pool .entry))) (element .0)) ⌝ }
+{
+    let own = own_serving(table, pool, first, next, start, element, uri);
+    if wide(own.0) < table.len() / 10 {
+        return own;
+    }
+    let outer = climb::ancestor(table, element);
+    if outer.0 < element.0 {
+        return serving(table, pool, first, next, start, outer, uri);
+    }
+    Row(NONE)
+}
+
+// The prefix of a declaration that may be missing, as an answer.
+fn declared_prefix(table: &[u32], row: Row) -> InScope
+    ensures { λ r. ⌜ ((pool : List ℕ) → r ≡ bound (prefixOf (found (nodes (now (table .entry)) pool) (row .0)))) ⌝ }
+{
+    if table.len() / 10 <= wide(row.0) {
+        return InScope::Nothing;
+    }
+    InScope::At(place(table, row, 4))
+}
+
+// The in-scope prefix of a URI at an element.
+pub fn in_scope_prefix(
+    table: &[u32],
+    pool: &[u8],
+    first: &[u32],
+    next: &[u32],
+    element: Row,
+    uri: &[u8],
+) -> InScope
+    requires { ⌜ Ready (now table) (now first) (now next) ⌝ }
+    requires { ⌜ Element (now table) (element .0) ⌝ }
+    ensures { λ r. ⌜ r ≡ bound (inScopePrefix (scopeAt (nodes (now (table .entry)) (now (pool .entry))) (element .0)) (now (uri .entry))) ⌝ }
+{
+    if uri.len() == 0 {
+        return InScope::Nothing;
+    }
+    if names::is_xml_uri(uri) {
+        return InScope::Xml;
+    }
+    if names::is_xmlns_uri(uri) {
+        return InScope::Xmlns;
+    }
+    let row = serving(table, pool, first, next, element, element, uri);
+    declared_prefix(table, row)
+}

@@ -1,0 +1,2 @@
+-- What the three lookups ask of one row.
+pub mod Tests
