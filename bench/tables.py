@@ -4,6 +4,7 @@
 Usage: bench/tables.py DIR
 
 Each file holds, as little-endian 32-bit words, the number of words and of pool bytes, then the words, then the pool.
+The rows of a table for normalization are those of its result: the table is as much shorter as that adds rows.
 The tables are the same in every run: the generator is seeded, and uses only its own arithmetic.
 """
 import struct
@@ -132,11 +133,116 @@ def long_names(rows):
     return table
 
 
+def add_element(table, numbers, parent, k):
+    return table.add(1, parent, table.place(PREFIXES[k]), table.place(WORDS[numbers.below(17)]), table.place(URIS[k]))
+
+
+def add_prefixed(table, owner, word, prefix, uri):
+    """An attribute with a URI; no prefix where it is empty."""
+    table.add(2, owner, table.place(prefix) if prefix else NOTHING, table.place(word), table.place(uri), table.place("value"))
+
+
+def fill(table, parent, rows):
+    while len(table.rows) < rows:
+        table.add(3, parent, value=table.place("text"))
+    return table
+
+
+def typical(rows):
+    """A tree of elements, four prefixes declared at its root, two attributes an element; one element in ten has a
+    prefix that is not declared, one attribute in ten a prefix that is not, for a URI that is in scope."""
+    table, numbers, added = Table(), Numbers(3), 0
+    elements = [start(table)]
+    while len(table.rows) + added + 4 <= rows:
+        parent, k = elements[-1 - numbers.below(min(8, len(elements)))], numbers.below(4)
+        if numbers.below(10) == 0:
+            added += 1
+            element = table.add(1, parent, table.place("q%d" % added), table.place("extra"), table.place("urn:extra:%d" % added))
+        else:
+            element = add_element(table, numbers, parent, k)
+        elements.append(element)
+        table.add(2, element, local=table.place("id"), value=table.place("value%d" % numbers.below(200)))
+        add_prefixed(table, element, "type", "z" if numbers.below(10) == 0 else PREFIXES[k], URIS[k])
+    return fill(table, elements[0], rows - added)
+
+
+def deep(rows):
+    """A chain of elements, four prefixes declared at its root; a prefix on every element and on its attribute."""
+    table, numbers = Table(), Numbers(4)
+    element = start(table)
+    while len(table.rows) + 2 <= rows:
+        element = add_element(table, numbers, element, numbers.below(4))
+        k = numbers.below(4)
+        add_prefixed(table, element, "type", PREFIXES[k], URIS[k])
+    return fill(table, element, rows)
+
+
+def wide(rows):
+    """One root, its children with two attributes each."""
+    table, numbers = Table(), Numbers(5)
+    root = start(table)
+    while len(table.rows) + 3 <= rows:
+        element = add_element(table, numbers, root, numbers.below(4))
+        table.add(2, element, local=table.place("id"), value=table.place("value%d" % numbers.below(200)))
+        k = numbers.below(4)
+        add_prefixed(table, element, "type", PREFIXES[k], URIS[k])
+    return fill(table, root, rows)
+
+
+def askers(table, parent, added, rows):
+    """Elements with an attribute of the shadowed URI, which each add a declaration."""
+    while len(table.rows) + added + 3 <= rows:
+        element = table.add(1, parent, local=table.place("item"))
+        add_prefixed(table, element, "type", "", SHADOWED)
+        added += 1
+    return fill(table, parent, rows - added)
+
+
+SHADOWED = "http://www.example.org/shadowed"
+
+
+def shadowed(rows):
+    """Nested elements that declare the same four prefixes, the outer half for one URI, the inner half for others;
+    inside them, attributes with that one URI."""
+    table = Table()
+    element, depth = table.add(9, NONE), rows // 10
+    for i in range(depth):
+        element = table.add(1, element, local=table.place("part"))
+        for prefix in PREFIXES:
+            uri = SHADOWED if i < depth // 2 else "http://www.example.org/part%04d" % i
+            table.add(13, element, local=table.place(prefix), value=table.place(uri))
+    return askers(table, element, 0, rows)
+
+
+def shadowed_once(rows):
+    """One element declares many prefixes for one URI, one inside it all of them for another; then as before."""
+    table = Table()
+    outer = table.add(1, NONE, local=table.place("outer"))
+    inner = table.add(1, outer, local=table.place("inner"))
+    for element, uri in ((outer, SHADOWED), (inner, "http://www.example.org/nearer00")):
+        for i in range(rows // 4):
+            table.add(13, element, local=table.place("p%03d" % i), value=table.place(uri))
+    return askers(table, inner, 0, rows)
+
+
+def numbered(rows):
+    """Attributes of one element, each with a URI of its own and no prefix, which each add a declaration."""
+    table = Table()
+    root = table.add(1, NONE, local=table.place("root"))
+    for i in range((rows - 1) // 2):
+        add_prefixed(table, root, "type", "", "http://www.example.org/n%d" % i)
+    return fill(table, root, rows - (rows - 1) // 2)
+
+
+CHECKED = (ordinary, apart, one_owner, texts, long_names)
+NORMALIZED = (typical, deep, wide, shadowed, shadowed_once, numbered)
+
+
 def main():
     if len(sys.argv) != 2:
         sys.exit(__doc__)
-    for make in (ordinary, apart, one_owner, texts, long_names):
-        for rows in (500, 1000):
+    for make in CHECKED + NORMALIZED:
+        for rows in (250, 500, 1000):
             make(rows).write("%s/%s-%d" % (sys.argv[1], make.__name__, rows))
 
 

@@ -1,7 +1,8 @@
 // Document 01's number and row for each answer; 0 and row 0 where nothing is refused.
 ghost use mathlib.Core.Path.{_≡_};
-ghost use Rattle.rules.specs.Answers.{numberOf, checkNumber};
+ghost use Rattle.rules.specs.Answers.{numberOf, checkNumber, normalizedNumber, normalizedRows, normalizedBytes};
 use rules::Checked;
+use rules::Normalized;
 use rules::Refusal;
 use rules::Row;
 
@@ -52,5 +53,34 @@ pub fn check_number(answer: Checked) -> Number
     match answer {
         Checked::Accepted => plain(0),
         Checked::Refused(refusal) => number_of(refusal),
+    }
+}
+
+pub fn normalized_number(answer: Normalized) -> Number
+    ensures { λ r. ⌜ (r .number ≡ normalizedNumber answer .number) × (r .row .0 ≡ normalizedNumber answer .row) ⌝ }
+{
+    match answer {
+        Normalized::Done { rows: _, bytes: _ } => plain(0),
+        Normalized::Refused(refusal) => number_of(refusal),
+    }
+}
+
+// The result's row count; 0 where normalization is refused.
+pub fn normalized_rows(answer: Normalized) -> usize
+    ensures { λ r. ⌜ r ≡ normalizedRows answer ⌝ }
+{
+    match answer {
+        Normalized::Done { rows, bytes: _ } => rows,
+        Normalized::Refused(_) => 0,
+    }
+}
+
+// The result's pool length; 0 where normalization is refused.
+pub fn normalized_bytes(answer: Normalized) -> usize
+    ensures { λ r. ⌜ r ≡ normalizedBytes answer ⌝ }
+{
+    match answer {
+        Normalized::Done { rows: _, bytes } => bytes,
+        Normalized::Refused(_) => 0,
     }
 }

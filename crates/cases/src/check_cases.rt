@@ -34,7 +34,7 @@ fn rows_at_the_limit() {
 }
 
 // Gives the first word of every row the type of a text.
-fn make_texts(table: &mut [u32]) {
+pub fn make_texts(table: &mut [u32]) {
     let mut i: usize = 0;
     while i < table.len() {
         table[i] = 3;

@@ -4,12 +4,16 @@
 mod check_cases;
 mod lookup_cases;
 mod lookup_report;
+mod normalize_cases;
+mod normalize_limits;
+mod normalize_report;
 mod parts;
 mod report;
 mod words;
 
 fn main() {
     check_cases::limits();
+    normalize_limits::limits();
     let mut space = io::large_buffer();
     let count = io::read_full(0, &mut space);
     each_line(&space[..count]);
@@ -36,6 +40,10 @@ fn case(line: &[u8]) {
     }
     if names::same(operation, b"parts") {
         lookup_cases::part_case(parts::tail(line));
+        return;
+    }
+    if names::same(operation, b"normalize") {
+        normalize_cases::case(parts::tail(line));
         return;
     }
     io::write_all(1, line);

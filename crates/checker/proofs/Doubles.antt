@@ -2,7 +2,7 @@
 -- Assumes nothing.
 use Prim.Native.Nat.{ℕ, _≤_, _<_}
 use mathlib.Core.Path.{_≡_, refl, sym, _∙_}
-use mathlib.Core.Bool.{Bool, true, false, _&&_, not, and-false}
+use mathlib.Core.Bool.{Bool, true, false, _&&_, not, and-true, and-false}
 use mathlib.Core.List.{List, [], _∷_}
 use native.Mathlib.Omega.{arith}
 use borrow.Author.Tests.{eqb-true, eq-eqb, ne-eqb}
@@ -22,21 +22,23 @@ module _ (n e : Node) (owner : e .parent ≡ n .parent) (some-owner : n .parent 
   unfolding isDouble
   double-type h = rw (eq-eqb (e .parent) (n .parent) owner, ne-eqb (n .parent) NONE some-owner, ne-eqb (e .type) (n .type) h)
 
-  pub double-name : e .type ≡ n .type → sameBytes (e .local .bytes) (n .local .bytes) ≡ false → false ≡ isDouble n e
+  -- Declarations, and attributes of DOM Level 1.
+  pub double-name : e .type ≡ n .type → (n .type ≡ 2 → ⊥) → sameBytes (e .local .bytes) (n .local .bytes) ≡ isDouble n e
   unfolding isDouble
-  double-name t s =
-      rw (eq-eqb (e .parent) (n .parent) owner, ne-eqb (n .parent) NONE some-owner, eq-eqb (e .type) (n .type) t, s)
-
-  pub double-local : e .type ≡ n .type → sameBytes (e .local .bytes) (n .local .bytes) ≡ true → (n .type ≡ 2 → ⊥) → true ≡ isDouble n e
-  unfolding isDouble
-  double-local t s h =
+  double-name t h =
       let rest : isOneOf (13 ∷ 258 ∷ []) (n .type) ≡ true = rw (ne-eqb (n .type) 2 h) at owned in
-      rw (eq-eqb (e .parent) (n .parent) owner, ne-eqb (n .parent) NONE some-owner, eq-eqb (e .type) (n .type) t, s, rest)
+      rw (eq-eqb (e .parent) (n .parent) owner, ne-eqb (n .parent) NONE some-owner, eq-eqb (e .type) (n .type) t, rest, and-true)
 
-  pub double-uri : e .type ≡ n .type → sameBytes (e .local .bytes) (n .local .bytes) ≡ true → n .type ≡ 2 → sameBytes (e .uri .bytes) (n .uri .bytes) ≡ isDouble n e
+  -- Attributes.
+  pub double-uri : e .type ≡ n .type → n .type ≡ 2 → sameBytes (e .uri .bytes) (n .uri .bytes) ≡ false → false ≡ isDouble n e
   unfolding isDouble
-  double-uri t s h =
-      rw (eq-eqb (e .parent) (n .parent) owner, ne-eqb (n .parent) NONE some-owner, eq-eqb (e .type) (n .type) t, s, h)
+  double-uri t h s =
+      rw (eq-eqb (e .parent) (n .parent) owner, ne-eqb (n .parent) NONE some-owner, eq-eqb (e .type) (n .type) t, h, s, and-false)
+
+  pub double-local : e .type ≡ n .type → n .type ≡ 2 → sameBytes (e .uri .bytes) (n .uri .bytes) ≡ true → sameBytes (e .local .bytes) (n .local .bytes) ≡ isDouble n e
+  unfolding isDouble
+  double-local t h s =
+      rw (eq-eqb (e .parent) (n .parent) owner, ne-eqb (n .parent) NONE some-owner, eq-eqb (e .type) (n .type) t, h, s, and-true)
 
 module _ (n e : Node) where
   owner-and-type : isDouble n e ≡ true → (e .parent ≡ n .parent) × (e .type ≡ n .type)

@@ -62,18 +62,21 @@ fn is_double(table: &[u32], pool: &[u8], row: Row, earlier: Row) -> bool
     if before != kind {
         return false;
     }
+    if kind != 2 {
+        return same(
+            field_within(table, pool, earlier, 4),
+            field_within(table, pool, row, 4),
+        );
+    }
     if !same(
-        field_within(table, pool, earlier, 4),
-        field_within(table, pool, row, 4),
+        field_within(table, pool, earlier, 6),
+        field_within(table, pool, row, 6),
     ) {
         return false;
     }
-    if kind != 2 {
-        return true;
-    }
     same(
-        field_within(table, pool, earlier, 6),
-        field_within(table, pool, row, 6),
+        field_within(table, pool, earlier, 4),
+        field_within(table, pool, row, 4),
     )
 }
 

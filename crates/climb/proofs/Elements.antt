@@ -25,7 +25,7 @@ module _ (ns : List Node) where
   stepped outward r = cond (isElement (node ns r .type)) (r ∷ outward) (cond (eqb (node ns r .type) 5) outward [])
 
   -- The climb ends before its steps do.
-  climb-enough : (k j r : ℕ) → r < k → r < j → climb k ns r ≡ climb j ns r
+  pub climb-enough : (k j r : ℕ) → r < k → r < j → climb k ns r ≡ climb j ns r
   unfolding climb
   climb-enough zero j r p q = absurd (omega arith)
   climb-enough (suc k) zero r p q = absurd (omega arith)

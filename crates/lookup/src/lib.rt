@@ -182,7 +182,9 @@ fn in_scope_uri(table: &[u32], pool: &[u8], row: Row, prefix: &[u8]) -> InScope
     let mut first = [NONE; ROWS];
     let mut next = [NONE; ROWS];
     link_declarations(table, &mut first, &mut next);
-    scope::in_scope_uri(table, pool, &first, &next, start, prefix)
+    let mut up = [NONE; ROWS];
+    scope::link_up_to(table, pool, &first, &next, &mut up, start);
+    scope::in_scope_uri(table, pool, &first, &next, &up, start, prefix)
 }
 
 fn in_scope_prefix(table: &[u32], pool: &[u8], row: Row, uri: &[u8]) -> InScope
@@ -196,5 +198,7 @@ fn in_scope_prefix(table: &[u32], pool: &[u8], row: Row, uri: &[u8]) -> InScope
     let mut first = [NONE; ROWS];
     let mut next = [NONE; ROWS];
     link_declarations(table, &mut first, &mut next);
-    scope::in_scope_prefix(table, pool, &first, &next, start, uri)
+    let mut up = [NONE; ROWS];
+    scope::link_up_to(table, pool, &first, &next, &mut up, start);
+    scope::in_scope_prefix(table, pool, &first, &next, &up, start, uri)
 }

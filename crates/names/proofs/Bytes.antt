@@ -1,9 +1,10 @@
 -- Byte strings go byte by byte: equality, a part as far as the pool goes, a good name.
 -- Assumes nothing.
-use Prim.Native.Nat.{ℕ, suc, _+_, _-_, _≤_, _<_}
+use Prim.Native.Nat.{ℕ, zero, suc, _+_, _-_, _≤_, _<_}
 use mathlib.Core.Path.{_≡_, refl, sym, ap, _∙_}
 use mathlib.Core.Bool.{Bool, true, false, _&&_, _||_, and-false, or-true, or-false}
 use mathlib.Core.List.{List, [], _∷_}
+use native.Mathlib.Nat.{le-of-suc-le-suc, not-suc-le-zero}
 use native.Mathlib.Numerals.{add-one}
 use native.Mathlib.Omega.{arith}
 use borrow.Author.Tests.{eq-eqb, ne-eqb}
@@ -12,6 +13,7 @@ use lib.ListN.{length, getD, take, drop, length-drop, drop-of-length-le}
 use lib.Seq.{drop-cons, take-all, take-nil}
 use Rattle.rules.specs.Lists.{allOf, sameBytes}
 use Rattle.rules.specs.Table.{part}
+use Rattle.rules.proofs.Lists.{unequal-sameBytes}
 use Rattle.rules.specs.Refusals.{isBetween, isFirstByte, isNameByte, goodName}
 
 -- Strings of two lengths differ.
@@ -21,16 +23,27 @@ same-lengths [] (y ∷ ys) h = refl
 same-lengths (x ∷ xs) [] h = refl
 same-lengths (x ∷ xs) (y ∷ ys) h = rw (same-lengths xs ys (λ e. h (ap suc e))) (and-false (eqb x y))
 
-module _ (a b : List ℕ) (i : ℕ) (h : i < length a) (l : i < length b) where
-  -- Equal bytes at i leave the rest to be compared.
-  pub same-step : getD a i 0 ≡ getD b i 0 → sameBytes (drop (i + 1) a) (drop (i + 1) b) ≡ sameBytes (drop i a) (drop i b)
-  same-step e = rw (add-one, drop-cons a i 0, drop-cons b i 0, eq-eqb (getD a i 0) (getD b i 0) e)
+-- Strings with two bytes at one place differ.
+pub same-differ : (a b : List ℕ) (i : ℕ) → (getD a i 0 ≡ getD b i 0 → ⊥) → sameBytes a b ≡ false
+same-differ a b i n = unequal-sameBytes a b (λ e. n (ap (λ l. getD l i 0) e))
 
-  pub same-differ : (getD a i 0 ≡ getD b i 0 → ⊥) → sameBytes (drop i a) (drop i b) ≡ false
-  same-differ n = rw (drop-cons a i 0, drop-cons b i 0, ne-eqb (getD a i 0) (getD b i 0) n)
+-- Equal bytes behind the first i leave those to be compared.
+same-step : (a b : List ℕ) (i : ℕ) → i < length a → i < length b → getD a i 0 ≡ getD b i 0 → sameBytes (take i a) (take i b) ≡ sameBytes (take (suc i) a) (take (suc i) b)
+same-step [] b i h l e = absurd (not-suc-le-zero h)
+same-step (x ∷ xs) [] i h l e = absurd (not-suc-le-zero l)
+same-step (x ∷ xs) (y ∷ ys) zero h l e = rw (eq-eqb x y e) refl
+same-step (x ∷ xs) (y ∷ ys) (suc i) h l e = ap (λ t. eqb x y && t) (same-step xs ys i (le-of-suc-le-suc h) (le-of-suc-le-suc l) e)
 
-pub same-end : (a b : List ℕ) (i : ℕ) → length a ≤ i → length b ≤ i → sameBytes (drop i a) (drop i b) ≡ true
-same-end a b i h l = rw (drop-of-length-le a h, drop-of-length-le b l)
+pub same-before : (a b : List ℕ) (i j : ℕ) → i ≡ j + 1 → j < length a → j < length b → getD a j 0 ≡ getD b j 0 → sameBytes (take j a) (take j b) ≡ sameBytes (take i a) (take i b)
+same-before a b i j e h l g = same-step a b j h l g ∙ sym (ap (λ n. sameBytes (take n a) (take n b)) (e ∙ add-one j))
+
+-- Strings of one length are compared whole.
+pub same-start : (a b : List ℕ) → length a ≡ length b → sameBytes (take (length a) a) (take (length a) b) ≡ sameBytes a b
+same-start a b e = rw (take-all (length a) a (omega arith), take-all (length a) b (omega arith)) refl
+
+pub same-none : (a b : List ℕ) (i : ℕ) → i ≤ 0 → sameBytes (take i a) (take i b) ≡ true
+same-none a b zero h = refl
+same-none a b (suc i) h = absurd (not-suc-le-zero h)
 
 -- Past its end the pool has no part, and a part that is too long ends with the pool.
 pub part-none : (pool : List ℕ) (offset size : ℕ) → length pool ≤ offset → [] ≡ part pool offset size

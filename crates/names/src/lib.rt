@@ -5,19 +5,19 @@ ghost use Rattle.rules.specs.Table.{part, xmlPrefix, xmlnsPrefix, xmlUri, xmlns
 ghost use Rattle.rules.specs.Refusals.{isBetween, isFirstByte, isNameByte, goodName};
 use rules::Offset;
 
-// The two byte strings are equal, byte by byte.
+// The two byte strings are equal, byte by byte. From the end, where most that share a stem differ.
 pub fn same(a: &[u8], b: &[u8]) -> bool
     ensures { λ r. ⌜ r ≡ sameBytes (now (a .entry)) (now (b .entry)) ⌝ }
 {
     if a.len() != b.len() {
         return false;
     }
-    let mut i = 0;
-    while i < a.len() {
+    let mut i = a.len();
+    while i > 0 {
+        i -= 1;
         if a[i] != b[i] {
             return false;
         }
-        i += 1;
     }
     true
 }

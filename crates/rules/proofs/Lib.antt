@@ -10,3 +10,5 @@ pub mod Independence
 pub mod Result
 pub mod Demand3
 pub mod Cases
+pub mod Unique
+pub mod Bounds

@@ -36,7 +36,7 @@ sound-own x (n ∷ ns) s =
     rw q (true-both (rw (t .0) at head) (sound-own x ns (h .1))))
     (λ q. rw q (sound-own x ns (h .1)))
 
-sound-scope : (ns : List Node) (e : ℕ) → allOf isSound ns ≡ true → allOf isLegal (scopeAt ns e) ≡ true
+pub sound-scope : (ns : List Node) (e : ℕ) → allOf isSound ns ≡ true → allOf isLegal (scopeAt ns e) ≡ true
 unfolding scopeAt ownDeclarations
 sound-scope ns e s = allOf-gathered isLegal (ownDeclarations ns) (λ x. sound-own x ns s) (elementsFrom ns e)
 
@@ -79,7 +79,7 @@ AttributeMeans ns e a =
 -- Steps 1 and 2.
 module _ (total e : ℕ) (ns : List Node) (within : e < length ns) (long : total ≤ length ns) (element : node ns e .type ≡ 1)
     (good : NamespaceAccepted (node ns e)) where
-  sound-element : allOf isSound ns ≡ true → allOf isSound (repairElement e ns) ≡ true
+  pub sound-element : allOf isSound ns ≡ true → allOf isSound (repairElement e ns) ≡ true
   unfolding repairElement
   sound-element s =
       by-cases (isEmpty (node ns e .uri .bytes))
@@ -129,7 +129,7 @@ module _ (total e : ℕ) (ns : List Node) (within : e < length ns) (long : total
 -- Step 3.
 
 -- A repair that keeps the prefix changes nothing.
-perform-keep : (e a : ℕ) (s : State) → perform e a keep s ≡ s
+pub perform-keep : (e a : ℕ) (s : State) → perform e a keep s ≡ s
 unfolding perform newPrefix newRows newBytes node
 perform-keep e a s =
     let rows : set (s .rows) a (withPrefix (getD (s .rows) a noNode .prefix) (getD (s .rows) a noNode)) ++ [] ≡ s .rows =
@@ -137,7 +137,7 @@ perform-keep e a s =
     in
     rw (rows, append-nil (s .pool)) refl
 
-repair-empty : (scope : List Node) (a : Node) → isEmpty (a .uri .bytes) ≡ true → repairOf scope a ≡ keep
+pub repair-empty : (scope : List Node) (a : Node) → isEmpty (a .uri .bytes) ≡ true → repairOf scope a ≡ keep
 unfolding repairOf
 repair-empty scope a q = rw q refl
 
@@ -149,7 +149,7 @@ sound-new-rows e prefix uri (takeBuiltIn bytes) u = refl
 sound-new-rows e prefix uri declareOwn u = true-both (sound-declaration e prefix uri (inr u)) refl
 sound-new-rows e prefix uri (makeNumbered bytes) u = true-both (sound-declaration e prefix uri (inr u)) refl
 
-sound-perform : (e a : ℕ) (repair : Repair) (s : State) → node (s .rows) a .type ≡ 2 → isEmpty (node (s .rows) a .uri .bytes) ≡ false → allOf isSound (s .rows) ≡ true → allOf isSound (perform e a repair s .rows) ≡ true
+pub sound-perform : (e a : ℕ) (repair : Repair) (s : State) → node (s .rows) a .type ≡ 2 → isEmpty (node (s .rows) a .uri .bytes) ≡ false → allOf isSound (s .rows) ≡ true → allOf isSound (perform e a repair s .rows) ≡ true
 unfolding perform isSound
 sound-perform e a repair s t u h =
     let after = newPrefix (s .pool) (node (s .rows) a) repair in

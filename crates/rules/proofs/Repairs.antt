@@ -32,7 +32,7 @@ module _ {A : Type 0} (test : A → Bool) where
       (λ q. absurd (Option·none-ne-some x (sym (rw q at n))))
       (λ q. rw q (insert-found xs ys d (rw q at n) e))
 
-  prefix-none : (xs ys : List A) → firstThat test (xs ++ ys) ≡ none → firstThat test xs ≡ none
+  pub prefix-none : (xs ys : List A) → firstThat test (xs ++ ys) ≡ none → firstThat test xs ≡ none
   prefix-none [] ys e = refl
   prefix-none (x ∷ xs) ys e =
       by-cases (test x)

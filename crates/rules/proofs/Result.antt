@@ -109,7 +109,7 @@ fits-declare pool e prefix uri ns p u h =
     (allOf-append (fitsIn pool) ns (newDeclaration e prefix uri ∷ []) h
     (true-both (fit pool (newDeclaration e prefix uri) (record { prefix = in-pool-none pool; local = p; uri = in-pool-none pool; value = u })) refl)))
 
-fits-element : (pool : List ℕ) (e : ℕ) (ns : List Node) → e < length ns → allOf (fitsIn pool) ns ≡ true → allOf (fitsIn pool) (repairElement e ns) ≡ true
+pub fits-element : (pool : List ℕ) (e : ℕ) (ns : List Node) → e < length ns → allOf (fitsIn pool) ns ≡ true → allOf (fitsIn pool) (repairElement e ns) ≡ true
 unfolding repairElement
 fits-element pool e ns i h =
     by-cases (isEmpty (node ns e .uri .bytes))
@@ -197,7 +197,7 @@ longer-declare e prefix uri ns =
     (λ q. rw (q, length-map ns (revalued e (prefix .bytes) uri)) (le-refl (length ns)))
     (λ q. rw (q, length-append) (omega arith))
 
-longer-element : (e : ℕ) (ns : List Node) → length ns ≤ length (repairElement e ns)
+pub longer-element : (e : ℕ) (ns : List Node) → length ns ≤ length (repairElement e ns)
 unfolding repairElement
 longer-element e ns =
     by-cases (isEmpty (node ns e .uri .bytes))
@@ -210,11 +210,11 @@ longer-element e ns =
     (λ t. rw (q, t) (le-refl (length ns)))
     (λ t. rw (q, t) (longer-declare e (node ns e .prefix) (node ns e .uri) ns)))
 
-longer-perform : (e a : ℕ) (repair : Repair) (s : State) → length (s .rows) ≤ length (perform e a repair s .rows)
+pub longer-perform : (e a : ℕ) (repair : Repair) (s : State) → length (s .rows) ≤ length (perform e a repair s .rows)
 unfolding perform
 longer-perform e a repair s = simp (length-append, length-set) (omega arith)
 
-pool-attribute : (total e a : ℕ) (s : State) → a < total → Pool total s → Pool total (repairAttribute e a s)
+pub pool-attribute : (total e a : ℕ) (s : State) → a < total → Pool total s → Pool total (repairAttribute e a s)
 unfolding repairAttribute
 pool-attribute total e a s i h =
     let repair = repairOf (scopeAt (s .rows) e) (node (s .rows) a) in

@@ -137,13 +137,13 @@ kept-append total e ns prefix uri t =
     }
 
 -- An own declaration is a declaration of e with that prefix.
-own-declaration : (e : ℕ) (prefix : List ℕ) (n : Node) → isOwnDeclaration e prefix n ≡ true → (n .type ≡ 13) × (n .parent ≡ e)
+pub own-declaration : (e : ℕ) (prefix : List ℕ) (n : Node) → isOwnDeclaration e prefix n ≡ true → (n .type ≡ 13) × (n .parent ≡ e)
 own-declaration e prefix n q =
     let d = both-true (isDeclarationOf e n) (declares prefix n) q in
     let t = both-true (eqb (n .type) 13) (eqb (n .parent) e) (d .0) in
     (eqb-true (n .type) 13 (t .0), eqb-true (n .parent) e (t .1))
 
-revalued-core : (e : ℕ) (prefix : List ℕ) (uri : Field) (n : Node) → SameCore n (revalued e prefix uri n)
+pub revalued-core : (e : ℕ) (prefix : List ℕ) (uri : Field) (n : Node) → SameCore n (revalued e prefix uri n)
 revalued-core e prefix uri n =
     by-cases (isOwnDeclaration e prefix n)
     (λ q. rw q (record { type = refl; parent = refl; local = refl; uri = refl }))

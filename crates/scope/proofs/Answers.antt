@@ -1,7 +1,7 @@
 -- What each answer of the code is in the definitions.
 -- Assumes nothing.
 use Prim.Native.Nat.{ℕ, _≤_, _<_}
-use mathlib.Core.Bool.{Bool, true, false, cond}
+use mathlib.Core.Bool.{Bool, true, false, cond, and-false}
 use mathlib.Core.List.{List, []}
 use mathlib.Core.Option.{none, some}
 use mathlib.Core.Path.{_≡_, refl, sym, ap, _∙_}
@@ -87,9 +87,9 @@ module _ (scope : List Node) (uri : List ℕ) (d : Node) where
   unfolding serves
   serves-default is = rw is refl
 
-  pub serves-other : isEmpty (d .local .bytes) ≡ false → sameBytes (d .value .bytes) uri ≡ false → false ≡ serves scope uri d
+  pub serves-other : sameBytes (d .value .bytes) uri ≡ false → false ≡ serves scope uri d
   unfolding serves
-  serves-other full other = rw (full, other) refl
+  serves-other other = rw (other, and-false) refl
 
   pub serves-by :
       isEmpty (d .local .bytes) ≡ false → sameBytes (d .value .bytes) uri ≡ true

@@ -2,5 +2,6 @@
 -- answer of the code is in the definitions. Depends: what the in-scope lookups depend on.
 pub mod Walking
 pub mod Outward
+pub mod Upwards
 pub mod Answers
 pub mod Depends

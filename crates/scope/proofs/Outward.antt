@@ -9,13 +9,13 @@ use lib.ListN.{length}
 use Rattle.rules.specs.Lists.{firstThat, gathered}
 use Rattle.rules.specs.Table.{NONE, Node, nodes, node, rowCount, isElement}
 use Rattle.rules.specs.Lookups.{ancestorElement, elementsFrom, ownDeclarations, scopeAt}
-use Rattle.rules.proofs.Lists.{firstThat-append-none, firstThat-append-some}
+use Rattle.rules.proofs.Lists.{firstThat-append-some}
 use Rattle.rules.proofs.Table.{length-nodes}
 use Rattle.climb.specs.Found.{found, rowOr}
 use Rattle.climb.proofs.Elements.{above, elements-element, climb-up, climb-element, climb-end}
 use Rattle.climb.proofs.Words.{type-word}
 use Rattle.scope.specs.Ready.{Element}
-use Rattle.scope.proofs.Walking.{found-some, found-none}
+use Rattle.scope.proofs.Walking.{found-some}
 
 -- An element of the table comes first on its own climb.
 module _ (table pool : List ℕ) (e : ℕ) (element : Element table e) where
@@ -49,21 +49,6 @@ module _ (table pool : List ℕ) (limit : rowCount table ≤ NONE) (e : ℕ) (el
         within = there;
         type = ap isElement (sym (type-word table pool a there)) ∙ climb-element (nodes table pool) few e a is next falls inside;
       }
-
-  -- The first declaration in scope that passes a test; r is the first of the element's own, if there is one.
-  module _ (test : Node → Bool) (r : ℕ) (own : found (nodes table pool) r ≡ firstThat test (ownDeclarations (nodes table pool) e)) where
-    pub scope-up : rowCount table ≤ r → firstThat test (scopeAt (nodes table pool) a) ≡ firstThat test (scopeAt (nodes table pool) e)
-    unfolding scopeAt
-    scope-up past =
-        sym (ap (λ l. firstThat test (gathered (ownDeclarations (nodes table pool)) l)) outward
-        ∙ firstThat-append-none test (ownDeclarations (nodes table pool) e) (gathered (ownDeclarations (nodes table pool)) (elementsFrom (nodes table pool) a)) (sym own ∙ found-none table pool r past))
-
-    pub scope-end : rowCount table ≤ r → e ≤ a → found (nodes table pool) NONE ≡ firstThat test (scopeAt (nodes table pool) e)
-    unfolding scopeAt
-    scope-end past stays =
-        found-none table pool NONE limit
-        ∙ sym (ap (λ l. firstThat test (gathered (ownDeclarations (nodes table pool)) l)) (outward-end stays)
-        ∙ firstThat-append-none test (ownDeclarations (nodes table pool) e) [] (sym own ∙ found-none table pool r past))
 
 -- The element's own declaration decides.
 pub scope-here :

@@ -3,14 +3,14 @@
 // there is NONE.
 ghost use mathlib.Core.Path.{_≡_};
 ghost use mathlib.Core.Bool.{true};
-ghost use Prim.Native.Nat.{ℕ, _<_};
+ghost use Prim.Native.Nat.{ℕ, _+_, _<_};
 ghost use mathlib.Core.List.{List};
 ghost use lib.ListN.{length};
 ghost use Rattle.rules.specs.Lists.{firstThat, sameBytes};
-ghost use Rattle.rules.specs.Table.{nodes, nodeAt};
+ghost use Rattle.rules.specs.Table.{nodes, nodeAt, rowCount};
 ghost use Rattle.rules.specs.Lookups.{ownDeclarations, declares, scopeAt, orUnbound, valueOf, inScopeUri, uriBytes, serves, prefixOf, inScopePrefix, bound};
 ghost use Rattle.climb.specs.Found.{found};
-ghost use Rattle.scope.specs.Ready.{Ready, Element, placeAt};
+ghost use Rattle.scope.specs.Ready.{Ready, Element, Up, Upward, placeAt};
 use climb::NONE;
 use rules::InScope;
 use rules::Offset;
@@ -35,9 +35,10 @@ pub fn place(table: &[u32], row: Row, k: u32) -> Place
 
 // The declaration is of this prefix.
 fn declares(table: &[u32], pool: &[u8], row: Row, prefix: &[u8]) -> bool
+    requires { ⌜ row .0 < rowCount (now table) ⌝ }
     ensures { λ r. ⌜ r ≡ declares (now (prefix .entry)) (nodeAt (now (table .entry)) (now (pool .entry)) (row .0)) ⌝ }
 {
-    names::same(rows::field(table, pool, row, 4), prefix)
+    names::same(rows::field_within(table, pool, row, 4), prefix)
 }
 
 // An element's own declaration of a prefix.
@@ -66,28 +67,102 @@ pub fn own_declaration(
     Row(NONE)
 }
 
+// The nearest element above a row that has declarations, from what `up` has for the rows before. The
+// pool is there for the contract alone: what is in scope is rows with their names.
+pub fn above(table: &[u32], pool: &[u8], first: &[u32], next: &[u32], up: &[u32], row: Row) -> Row
+    requires { ⌜ Ready (now table) (now first) (now next) ⌝ }
+    requires { ⌜ row .0 < rowCount (now table) ⌝ }
+    requires { ⌜ Upward (nodes (now table) (now pool)) (now up) (row .0) ⌝ }
+    ensures { λ r. ⌜ Up (nodes (now (table .entry)) (now (pool .entry))) (row .0) (r .0) ⌝ }
+{
+    let parent = rows::word(table, row, 1);
+    if row.0 <= parent {
+        return Row(NONE);
+    }
+    let kind = rows::word(table, Row(parent), 0);
+    let p = wide(parent);
+    if climb::is_element(kind) {
+        if wide(first[p]) < table.len() / 10 {
+            return Row(parent);
+        }
+        return Row(up[p]);
+    }
+    if kind == 5 {
+        return Row(up[p]);
+    }
+    Row(NONE)
+}
+
+// Enters a row into `up`, which has the rows before it.
+pub fn link_upward(
+    table: &[u32],
+    pool: &[u8],
+    first: &[u32],
+    next: &[u32],
+    up: &mut [u32],
+    row: Row,
+)
+    requires { ⌜ Ready (now table) (now first) (now next) ⌝ }
+    requires { ⌜ row .0 < rowCount (now table) ⌝ }
+    requires { ⌜ Upward (nodes (now table) (now pool)) (now up) (row .0) ⌝ }
+    requires { ⌜ row .0 < length (now up) ⌝ }
+    ensures { λ _. ⌜ Upward (nodes (now (table .entry)) (now (pool .entry))) (now (up .exit)) (row .0 + 1) ⌝ }
+{
+    let outer = above(table, pool, first, next, up, row);
+    let r = wide(row.0);
+    up[r] = outer.0;
+}
+
+// Enters an element and all rows before it into `up`.
+pub fn link_up_to(
+    table: &[u32],
+    pool: &[u8],
+    first: &[u32],
+    next: &[u32],
+    up: &mut [u32],
+    element: Row,
+)
+    requires { ⌜ Ready (now table) (now first) (now next) ⌝ }
+    requires { ⌜ (element .0 < rowCount (now table)) × (element .0 < length (now up)) ⌝ }
+    ensures { λ _. ⌜ Upward (nodes (now (table .entry)) (now (pool .entry))) (now (up .exit)) (element .0 + 1) ⌝ }
+{
+    let e = wide(element.0);
+    let mut r: usize = 0;
+    while r <= e {
+        link_upward(table, pool, first, next, up, Row(r as u32));
+        r += 1;
+    }
+}
+
 // The nearest declaration of a prefix in scope at an element.
 pub fn declaration(
     table: &[u32],
     pool: &[u8],
     first: &[u32],
     next: &[u32],
+    up: &[u32],
     element: Row,
     prefix: &[u8],
 ) -> Row
     requires { ⌜ Ready (now table) (now first) (now next) ⌝ }
     requires { ⌜ Element (now table) (element .0) ⌝ }
+    requires { ⌜ Upward (nodes (now table) (now pool)) (now up) (element .0 + 1) ⌝ }
     ensures { λ r. ⌜ found (nodes (now (table .entry)) (now (pool .entry))) (r .0) ≡ firstThat (declares (now (prefix .entry))) (scopeAt (nodes (now (table .entry)) (now (pool .entry))) (element .0)) ⌝ }
 {
-    let own = own_declaration(table, pool, first, next, element, prefix);
-    if wide(own.0) < table.len() / 10 {
-        return own;
+    let n = table.len() / 10;
+    let start = wide(element.0);
+    let mut e = start;
+    loop {
+        let own = own_declaration(table, pool, first, next, Row(e as u32), prefix);
+        if wide(own.0) < n {
+            return own;
+        }
+        let outer = wide(up[e]);
+        if e <= outer {
+            return Row(NONE);
+        }
+        e = outer;
     }
-    let outer = climb::ancestor(table, element);
-    if outer.0 < element.0 {
-        return declaration(table, pool, first, next, outer, prefix);
-    }
-    Row(NONE)
 }
 
 // The value of a declaration that may be missing, as an answer; an empty one is none.
@@ -109,11 +184,13 @@ pub fn in_scope_uri(
     pool: &[u8],
     first: &[u32],
     next: &[u32],
+    up: &[u32],
     element: Row,
     prefix: &[u8],
 ) -> InScope
     requires { ⌜ Ready (now table) (now first) (now next) ⌝ }
     requires { ⌜ Element (now table) (element .0) ⌝ }
+    requires { ⌜ Upward (nodes (now table) (now pool)) (now up) (element .0 + 1) ⌝ }
     ensures { λ r. ⌜ r ≡ bound (inScopeUri (scopeAt (nodes (now (table .entry)) (now (pool .entry))) (element .0)) (now (prefix .entry))) ⌝ }
 {
     if names::is_xml(prefix) {
@@ -125,7 +202,7 @@ pub fn in_scope_uri(
     value(
         table,
         pool,
-        declaration(table, pool, first, next, element, prefix),
+        declaration(table, pool, first, next, up, element, prefix),
     )
 }
 
@@ -145,12 +222,14 @@ pub fn is_in_scope_uri(
     pool: &[u8],
     first: &[u32],
     next: &[u32],
+    up: &[u32],
     element: Row,
     prefix: &[u8],
     uri: &[u8],
 ) -> bool
     requires { ⌜ Ready (now table) (now first) (now next) ⌝ }
     requires { ⌜ Element (now table) (element .0) ⌝ }
+    requires { ⌜ Upward (nodes (now table) (now pool)) (now up) (element .0 + 1) ⌝ }
     ensures { λ r. ⌜ r ≡ sameBytes (uriBytes (inScopeUri (scopeAt (nodes (now (table .entry)) (now (pool .entry))) (element .0)) (now (prefix .entry)))) (now (uri .entry)) ⌝ }
 {
     if names::is_xml(prefix) {
@@ -159,7 +238,7 @@ pub fn is_in_scope_uri(
     if names::is_xmlns(prefix) {
         return names::is_xmlns_uri(uri);
     }
-    let row = declaration(table, pool, first, next, element, prefix);
+    let row = declaration(table, pool, first, next, up, element, prefix);
     has_value(table, pool, row, uri)
 }
 
@@ -169,22 +248,25 @@ fn serves(
     pool: &[u8],
     first: &[u32],
     next: &[u32],
+    up: &[u32],
     start: Row,
     row: Row,
     uri: &[u8],
 ) -> bool
     requires { ⌜ Ready (now table) (now first) (now next) ⌝ }
     requires { ⌜ Element (now table) (start .0) ⌝ }
+    requires { ⌜ Upward (nodes (now table) (now pool)) (now up) (start .0 + 1) ⌝ }
+    requires { ⌜ row .0 < rowCount (now table) ⌝ }
     ensures { λ r. ⌜ r ≡ serves (scopeAt (nodes (now (table .entry)) (now (pool .entry))) (start .0)) (now (uri .entry)) (nodeAt (now (table .entry)) (now (pool .entry)) (row .0)) ⌝ }
 {
-    let prefix = rows::field(table, pool, row, 4);
+    if !names::same(rows::field_within(table, pool, row, 8), uri) {
+        return false;
+    }
+    let prefix = rows::field_within(table, pool, row, 4);
     if prefix.len() == 0 {
         return false;
     }
-    if names::same(rows::field(table, pool, row, 8), uri) {
-        return is_in_scope_uri(table, pool, first, next, start, prefix, uri);
-    }
-    false
+    is_in_scope_uri(table, pool, first, next, up, start, prefix, uri)
 }
 
 // The first of an element's own declarations that serves at the start element.
@@ -193,12 +275,14 @@ fn own_serving(
     pool: &[u8],
     first: &[u32],
     next: &[u32],
+    up: &[u32],
     start: Row,
     element: Row,
     uri: &[u8],
 ) -> Row
     requires { ⌜ Ready (now table) (now first) (now next) ⌝ }
     requires { ⌜ Element (now table) (start .0) ⌝ }
+    requires { ⌜ Upward (nodes (now table) (now pool)) (now up) (start .0 + 1) ⌝ }
     requires { ⌜ Element (now table) (element .0) ⌝ }
     ensures { λ r. ⌜ found (nodes (now (table .entry)) (now (pool .entry))) (r .0) ≡ firstThat (serves (scopeAt (nodes (now (table .entry)) (now (pool .entry))) (start .0)) (now (uri .entry))) (ownDeclarations (nodes (now (table .entry)) (now (pool .entry))) (element .0)) ⌝ }
 {
@@ -208,7 +292,7 @@ fn own_serving(
     let mut r = wide(first[e]);
     while r < n {
         let row = Row(r as u32);
-        if serves(table, pool, first, next, Row(from), row, uri) {
+        if serves(table, pool, first, next, up, Row(from), row, uri) {
             return row;
         }
         r = wide(next[r]);
@@ -216,30 +300,44 @@ fn own_serving(
     Row(NONE)
 }
 
-// The first declaration from an element outward that serves at the start element.
+// The first declaration in scope at an element that serves there.
 fn serving(
     table: &[u32],
     pool: &[u8],
     first: &[u32],
     next: &[u32],
-    start: Row,
+    up: &[u32],
     element: Row,
     uri: &[u8],
 ) -> Row
     requires { ⌜ Ready (now table) (now first) (now next) ⌝ }
-    requires { ⌜ Element (now table) (start .0) ⌝ }
     requires { ⌜ Element (now table) (element .0) ⌝ }
-    ensures { λ r. ⌜ found (nodes (now (table .entry)) (now (pool .entry))) (r .0) ≡ firstThat (serves (scopeAt (nodes (now (table .entry)) (now (pool .entry))) (start .0)) (now (uri .entry))) (scopeAt (nodes (now (table .entry)) (now (pool .entry))) (element .0)) ⌝ }
+    requires { ⌜ Upward (nodes (now table) (now pool)) (now up) (element .0 + 1) ⌝ }
+    ensures { λ r. ⌜ found (nodes (now (table .entry)) (now (pool .entry))) (r .0) ≡ firstThat (serves (scopeAt (nodes (now (table .entry)) (now (pool .entry))) (element .0)) (now (uri .entry))) (scopeAt (nodes (now (table .entry)) (now (pool .entry))) (element .0)) ⌝ }
 {
-    let own = own_serving(table, pool, first, next, start, element, uri);
-    if wide(own.0) < table.len() / 10 {
-        return own;
+    let n = table.len() / 10;
+    let start = wide(element.0);
+    let mut e = start;
+    loop {
+        let own = own_serving(
+            table,
+            pool,
+            first,
+            next,
+            up,
+            Row(start as u32),
+            Row(e as u32),
+            uri,
+        );
+        if wide(own.0) < n {
+            return own;
+        }
+        let outer = wide(up[e]);
+        if e <= outer {
+            return Row(NONE);
+        }
+        e = outer;
     }
-    let outer = climb::ancestor(table, element);
-    if outer.0 < element.0 {
-        return serving(table, pool, first, next, start, outer, uri);
-    }
-    Row(NONE)
 }
 
 // The prefix of a declaration that may be missing, as an answer.
@@ -258,11 +356,13 @@ pub fn in_scope_prefix(
     pool: &[u8],
     first: &[u32],
     next: &[u32],
+    up: &[u32],
     element: Row,
     uri: &[u8],
 ) -> InScope
     requires { ⌜ Ready (now table) (now first) (now next) ⌝ }
     requires { ⌜ Element (now table) (element .0) ⌝ }
+    requires { ⌜ Upward (nodes (now table) (now pool)) (now up) (element .0 + 1) ⌝ }
     ensures { λ r. ⌜ r ≡ bound (inScopePrefix (scopeAt (nodes (now (table .entry)) (now (pool .entry))) (element .0)) (now (uri .entry))) ⌝ }
 {
     if uri.len() == 0 {
@@ -274,6 +374,6 @@ pub fn in_scope_prefix(
     if names::is_xmlns_uri(uri) {
         return InScope::Xmlns;
     }
-    let row = serving(table, pool, first, next, element, element, uri);
+    let row = serving(table, pool, first, next, up, element, uri);
     declared_prefix(table, row)
 }

@@ -4,8 +4,8 @@ use borrow.Author.Needs.{needs}
 use Rattle.scope.proofs.declares.Statement.{statement}
 use Rattle.scope.proofs.declares.Tie as tie
 
-field-requires : tie.Need-field-requires
-field-requires c κs = search needs
+field-within-requires : tie.Need-field-within-requires
+field-within-requires c κs = search needs
 
 same-requires : tie.Need-same-requires
 same-requires c κs = search needs
@@ -14,4 +14,4 @@ returns : tie.Need-returns
 returns c = cc
 
 pub declares-spec : {M : Type 1} → statement M
-declares-spec = tie.close (tie.spec field-requires same-requires returns)
+declares-spec = tie.close (tie.spec field-within-requires same-requires returns)

@@ -13,7 +13,7 @@ is-xml-requires c κs = search needs
 
 returns : tie.Need-returns
 returns c =
-    let s = c .before .before .before .before .before .before .before in
+    let s = c .before .before .before .before .before .before .before .before in
     let table = s .args .table .now in
     let pool = s .args .pool .now in
     let element = s .args .element .0 in
@@ -26,7 +26,7 @@ is-xmlns-requires c κs = search needs
 
 returns-2 : tie.Need-returns-2
 returns-2 c =
-    let s = c .before .before .before .before .before .before .before .before .before in
+    let s = c .before .before .before .before .before .before .before .before .before .before in
     let table = s .args .table .now in
     let pool = s .args .pool .now in
     let element = s .args .element .0 in
@@ -42,7 +42,7 @@ value-requires c κs = search needs
 
 returns-3 : tie.Need-returns-3
 returns-3 c =
-    let s = c .before .before .before .before .before .before .before .before .before .before .before in
+    let s = c .before .before .before .before .before .before .before .before .before .before .before .before in
     let table = s .args .table .now in
     let pool = s .args .pool .now in
     let element = s .args .element .0 in

@@ -18,7 +18,7 @@ is-xml-uri-requires c κs = search needs
 
 returns : tie.Need-returns
 returns c =
-    let s = c .before .before .before .before .before .before .before .before .before in
+    let s = c .before .before .before .before .before .before .before .before .before .before in
     let table = s .args .table .now in
     let pool = s .args .pool .now in
     let element = s .args .element .0 in
@@ -35,7 +35,7 @@ is-xmlns-uri-requires c κs = search needs
 
 returns-2 : tie.Need-returns-2
 returns-2 c =
-    let s = c .before .before .before .before .before .before .before .before .before .before .before in
+    let s = c .before .before .before .before .before .before .before .before .before .before .before .before in
     let table = s .args .table .now in
     let pool = s .args .pool .now in
     let element = s .args .element .0 in
@@ -52,7 +52,7 @@ has-value-requires c κs = search needs
 
 returns-3 : tie.Need-returns-3
 returns-3 c =
-    let s = c .before .before .before .before .before .before .before .before .before .before .before .before in
+    let s = c .before .before .before .before .before .before .before .before .before .before .before .before .before in
     let table = s .args .table .now in
     let pool = s .args .pool .now in
     let element = s .args .element .0 in

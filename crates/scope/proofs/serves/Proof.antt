@@ -2,6 +2,7 @@
 -- Assumes nothing.
 use mathlib.Core.Path.{sym, ap, _∙_}
 use borrow.Author.Needs.{needs}
+use borrow.Author.Tests.{not-true, not-false}
 use Rattle.rules.specs.Lists.{isEmpty, sameBytes}
 use Rattle.rules.specs.Table.{nodes, nodeAt}
 use Rattle.rules.specs.Lookups.{scopeAt, uriBytes, inScopeUri}
@@ -9,12 +10,15 @@ use Rattle.scope.proofs.Answers.{empty-yes, empty-no, serves-default, s
 use Rattle.scope.proofs.serves.Statement.{statement}
 use Rattle.scope.proofs.serves.Tie as tie
 
-field-requires : tie.Need-field-requires
-field-requires c κs = search needs
+field-within-requires : tie.Need-field-within-requires
+field-within-requires c κs = search needs
+
+same-requires : tie.Need-same-requires
+same-requires c κs = search needs
 
 returns : tie.Need-returns
 returns c =
-    let s = c .before .before .before .before .before .before .before in
+    let s = c .before .before .before .before .before .before .before .before .before in
     let table = s .args .table .now in
     let pool = s .args .pool .now in
     let start = s .args .start .0 in
@@ -22,17 +26,10 @@ returns c =
     let scope = scopeAt (nodes table pool) start in
     let uri = s .args .uri .now in
     let d = nodeAt table pool row in
-    let prefix = c .before .field in
-    serves-default scope uri d (ap isEmpty (sym (prefix .ensures)) ∙ empty-yes (prefix .result .now) (c .if1 .taken))
+    serves-other scope uri d (sym (ap (λ v. sameBytes v uri) (c .before .before .field-within .ensures)) ∙ sym (c .before .same .ensures) ∙ not-true (c .before .same .result) (c .if1 .taken))
 
-field-requires-2 : tie.Need-field-requires-2
-field-requires-2 c κs = search needs
-
-same-requires : tie.Need-same-requires
-same-requires c κs = search needs
-
-is-in-scope-uri-requires : tie.Need-is-in-scope-uri-requires
-is-in-scope-uri-requires c κs = search needs
+field-within-requires-2 : tie.Need-field-within-requires-2
+field-within-requires-2 c κs = search needs
 
 returns-2 : tie.Need-returns-2
 returns-2 c =
@@ -44,13 +41,15 @@ returns-2 c =
     let scope = scopeAt (nodes table pool) start in
     let uri = s .args .uri .now in
     let d = nodeAt table pool row in
-    let prefix = c .before .before .before .before .before .field in
-    c .is-in-scope-uri .ensures ∙ ap (λ p. sameBytes (uriBytes (inScopeUri scope p)) uri) (prefix .ensures)
-    ∙ serves-by scope uri d (ap isEmpty (sym (prefix .ensures)) ∙ empty-no (prefix .result .now) (c .before .before .before .before .if1 .left)) (cc)
+    let prefix = c .before .field-within2 in
+    serves-default scope uri d (ap isEmpty (sym (prefix .ensures)) ∙ empty-yes (prefix .result .now) (c .if2 .taken))
+
+is-in-scope-uri-requires : tie.Need-is-in-scope-uri-requires
+is-in-scope-uri-requires c κs = search needs
 
 returns-3 : tie.Need-returns-3
 returns-3 c =
-    let s = c .before .before .before .before .before .before .before .before .before .before in
+    let s = c .before .before .before .before .before .before .before .before .before .before .before .before in
     let table = s .args .table .now in
     let pool = s .args .pool .now in
     let start = s .args .start .0 in
@@ -58,17 +57,19 @@ returns-3 c =
     let scope = scopeAt (nodes table pool) start in
     let uri = s .args .uri .now in
     let d = nodeAt table pool row in
-    let prefix = c .before .before .before .before .field in
-    serves-other scope uri d (ap isEmpty (sym (prefix .ensures)) ∙ empty-no (prefix .result .now) (c .before .before .before .if1 .left)) (cc)
+    let prefix = c .before .before .field-within2 in
+    c .is-in-scope-uri .ensures ∙ ap (λ p. sameBytes (uriBytes (inScopeUri scope p)) uri) (prefix .ensures)
+    ∙ serves-by scope uri d (ap isEmpty (sym (prefix .ensures)) ∙ empty-no (prefix .result .now) (c .before .if2 .left))
+    (sym (ap (λ v. sameBytes v uri) (c .before .before .before .before .before .field-within .ensures)) ∙ sym (c .before .before .before .before .same .ensures) ∙ not-false (c .before .before .before .before .same .result) (c .before .before .before .if1 .left))
 
 pub serves-spec : {M : Type 1} → statement M
 serves-spec =
     tie.close
     (tie.spec
-    field-requires
-    returns
-    field-requires-2
+    field-within-requires
     same-requires
-    is-in-scope-uri-requires
+    returns
+    field-within-requires-2
     returns-2
+    is-in-scope-uri-requires
     returns-3)

@@ -8,7 +8,7 @@ use borrow.Author.Tests.{not-true, not-false}
 use denote.Ref.{now}
 use Rattle.rules.specs.Lists.{sameBytes}
 use Rattle.rules.specs.Table.{Node, nodeAt}
-use Rattle.checker.proofs.Doubles.{double-type, double-name, double-local, double-uri, same-parts}
+use Rattle.checker.proofs.Doubles.{double-type, double-name, double-uri, double-local, same-parts}
 use Rattle.checker.proofs.chains.is_double.Statement.{statement}
 use Rattle.checker.proofs.chains.is_double.Tie as tie
 
@@ -28,19 +28,9 @@ before s = nodeAt (table s) (pool s) (s .args .earlier .0)
 abbrev start : tie.Else1 → tie.Start
 start c = c .before .before .before .before .before
 
--- They have one type, and the first comparison is of their local names.
+-- They have one type.
 types : (c : tie.Else1) → before (start c) .type ≡ here (start c) .type
 types c = sym (c .before .word-within2 .ensures) ∙ c .if1 .left ∙ c .before .before .word-within .ensures
-
-abbrev tested : tie.After-same → tie.Else1
-tested c = c .before .before .before
-
-names : (c : tie.After-same) → c .same .result ≡ sameBytes (before (start (tested c)) .local .bytes) (here (start (tested c)) .local .bytes)
-names c =
-    let first = c .before .before in
-    same-parts (now (first .field-within .result)) (now (c .before .field-within2 .result)) (before (start (tested c)) .local .bytes)
-    (here (start (tested c)) .local .bytes) (c .same .result) (c .same .ensures) (first .field-within .ensures)
-    (c .before .field-within2 .ensures)
 
 word-within-requires : tie.Need-word-within-requires
 word-within-requires c κs = search needs
@@ -65,20 +55,14 @@ same-requires c κs = search needs
 
 returns-2 : tie.Need-returns-2
 returns-2 c =
-    let called = c .before in
-    let t = tested called in
+    let first = c .before .before in
+    let other = first .before in
+    let t = other .before in
     let s = start t in
-    double-name (here s) (before s) (s .pre .1 .1 .1 .1) (s .pre .1 .1 .1 .0) (s .pre .1 .1 .0) (types t)
-    (sym (names called) ∙ not-true (called .same .result) (c .if2 .taken))
-
-returns-3 : tie.Need-returns-3
-returns-3 c =
-    let called = c .before .before in
-    let t = tested called in
-    let s = start t in
-    double-local (here s) (before s) (s .pre .1 .1 .1 .1) (s .pre .1 .1 .1 .0) (s .pre .1 .1 .0) (types t)
-    (sym (names called) ∙ not-false (called .same .result) (c .before .if2 .left))
-    (λ e. c .if3 .taken (t .before .before .word-within .ensures ∙ e))
+    same-parts (now (first .field-within .result)) (now (c .before .field-within2 .result)) (before s .local .bytes) (here s .local .bytes)
+    (c .same .result) (c .same .ensures) (first .field-within .ensures) (c .before .field-within2 .ensures)
+    ∙ double-name (here s) (before s) (s .pre .1 .1 .1 .1) (s .pre .1 .1 .1 .0) (s .pre .1 .1 .0) (types t)
+    (λ e. other .if2 .taken (t .before .before .word-within .ensures ∙ e))
 
 field-within-requires-3 : tie.Need-field-within-requires-3
 field-within-requires-3 c κs = search needs
@@ -89,18 +73,47 @@ field-within-requires-4 c κs = search needs
 same-requires-2 : tie.Need-same-requires-2
 same-requires-2 c κs = search needs
 
+-- They are attributes, and the comparison is of their URIs.
+uris : (c : tie.After-same2) → c .same2 .result ≡ sameBytes (before (start (c .before .before .before .before)) .uri .bytes) (here (start (c .before .before .before .before)) .uri .bytes)
+uris c =
+    let first = c .before .before in
+    let s = start (first .before .before) in
+    same-parts (now (first .field-within3 .result)) (now (c .before .field-within4 .result)) (before s .uri .bytes) (here s .uri .bytes)
+    (c .same2 .result) (c .same2 .ensures) (first .field-within3 .ensures) (c .before .field-within4 .ensures)
+
+attributes : (c : tie.After-same2) → here (start (c .before .before .before .before)) .type ≡ 2
+attributes c =
+    let other = c .before .before .before in
+    sym (other .before .before .before .word-within .ensures) ∙ other .if2 .left
+
+returns-3 : tie.Need-returns-3
+returns-3 c =
+    let called = c .before in
+    let t = called .before .before .before .before in
+    let s = start t in
+    double-uri (here s) (before s) (s .pre .1 .1 .1 .1) (s .pre .1 .1 .1 .0) (s .pre .1 .1 .0) (types t) (attributes called)
+    (sym (uris called) ∙ not-true (called .same2 .result) (c .if3 .taken))
+
+field-within-requires-5 : tie.Need-field-within-requires-5
+field-within-requires-5 c κs = search needs
+
+field-within-requires-6 : tie.Need-field-within-requires-6
+field-within-requires-6 c κs = search needs
+
+same-requires-3 : tie.Need-same-requires-3
+same-requires-3 c κs = search needs
+
 returns-4 : tie.Need-returns-4
 returns-4 c =
     let first = c .before .before in
-    let kind = first .before in
-    let called = kind .before .before in
-    let t = tested called in
+    let equal = first .before in
+    let called = equal .before in
+    let t = called .before .before .before .before in
     let s = start t in
-    same-parts (now (first .field-within3 .result)) (now (c .before .field-within4 .result)) (before s .uri .bytes) (here s .uri .bytes)
-    (c .same2 .result) (c .same2 .ensures) (first .field-within3 .ensures) (c .before .field-within4 .ensures)
-    ∙ double-uri (here s) (before s) (s .pre .1 .1 .1 .1) (s .pre .1 .1 .1 .0) (s .pre .1 .1 .0) (types t)
-    (sym (names called) ∙ not-false (called .same .result) (kind .before .if2 .left))
-    (sym (t .before .before .word-within .ensures) ∙ kind .if3 .left)
+    same-parts (now (first .field-within5 .result)) (now (c .before .field-within6 .result)) (before s .local .bytes) (here s .local .bytes)
+    (c .same3 .result) (c .same3 .ensures) (first .field-within5 .ensures) (c .before .field-within6 .ensures)
+    ∙ double-local (here s) (before s) (s .pre .1 .1 .1 .1) (s .pre .1 .1 .1 .0) (s .pre .1 .1 .0) (types t) (attributes called)
+    (sym (uris called) ∙ not-false (called .same2 .result) (equal .if3 .left))
 
 pub is-double-spec : {M : Type 1} → statement M
 is-double-spec =
@@ -113,8 +126,11 @@ is-double-spec =
     field-within-requires-2
     same-requires
     returns-2
-    returns-3
     field-within-requires-3
     field-within-requires-4
     same-requires-2
+    returns-3
+    field-within-requires-5
+    field-within-requires-6
+    same-requires-3
     returns-4)

@@ -1,0 +1,47 @@
+-- A turn of a loop that clears or copies, and what the loop leaves.
+-- Assumes nothing.
+use Prim.Native.Nat.{ℕ, suc, _+_, _-_, _≤_, _<_}
+use mathlib.Core.Path.{_≡_, refl, ap, _∙_}
+use mathlib.Core.List.{List, _++_, append-nil}
+use native.Mathlib.Nat.{zero-add, le-antisymm}
+use native.Mathlib.Numerals.{add-one}
+use native.Mathlib.Omega.{arith}
+use lib.ListN.{length, getD, take, drop, set, replicate, length-set, length-append, length-drop, length-replicate}
+use lib.Seq.{take-all, take-length, take-suc-set, append-snoc, length-take-le, paste, paste-suc}
+use Rattle.buffers.specs.Writes.{written, cleared}
+
+-- What is left to clear decides what the buffer will be.
+pub clear-step : (t : List ℕ) (i : ℕ) → i < length t → cleared (set t i 0) (i + 1) ≡ cleared t i
+clear-step t i h =
+    let e : length t - i ≡ suc (length t - suc i) = omega arith in
+    rw (add-one, length-set, take-suc-set t i 0, e) (append-snoc (take i t) 0 (replicate (length t - suc i) 0))
+
+pub clear-end : (t : List ℕ) (i : ℕ) → length t ≤ i → cleared t i ≡ t
+clear-end t i h =
+    let e : length t - i ≡ 0 = omega arith in
+    rw (e, take-all i t) (append-nil t)
+
+module _ (t₀ t : List ℕ) (at : ℕ) (l : List ℕ) (i : ℕ) (e : t ≡ paste t₀ at l i) where
+  -- A store of element i takes the copy of i elements to that of i + 1.
+  pub write-step : at + length l ≤ length t₀ → i < length l → set t (at + i) (getD l i 0) ≡ paste t₀ at l (i + 1)
+  write-step h k = rw (e, add-one) (paste-suc t₀ at l i 0 (omega arith) k)
+
+  pub write-end : i ≤ length l → length l ≤ i → t ≡ written t₀ at l
+  write-end h k =
+      let n : i ≡ length l = le-antisymm h k in
+      e ∙ rw (n, take-length) refl
+
+-- A copy is a write from the start.
+pub written-from-start : (t l : List ℕ) → written t 0 l ≡ l ++ drop (length l) t
+written-from-start t l = ap (λ (n : ℕ). l ++ drop n t) (zero-add (length l))
+
+-- A write keeps the buffer's length.
+pub length-written : (t : List ℕ) (at : ℕ) (l : List ℕ) → at + length l ≤ length t → length (written t at l) ≡ length t
+length-written t at l h =
+    let e : length (take at t) ≡ at = length-take-le at t (omega arith) in
+    simp (length-append, length-drop, e) (omega arith)
+
+pub length-cleared : (t : List ℕ) (from : ℕ) → from ≤ length t → length (cleared t from) ≡ length t
+length-cleared t from h =
+    let e : length (take from t) ≡ from = length-take-le from t h in
+    simp (length-append, length-replicate, e) (omega arith)

@@ -1,0 +1,14 @@
+-- `normalizer::row_limit` meets its contract.
+-- Assumes nothing.
+use Rattle.normalizer.proofs.Whole.{limit-large, limit-small}
+use Rattle.normalizer.proofs.row_limit.Statement.{statement}
+use Rattle.normalizer.proofs.row_limit.Tie as tie
+
+returns : tie.Need-returns
+returns c = limit-large (c .before .args .words) (c .if1 .taken)
+
+returns-2 : tie.Need-returns-2
+returns-2 c = limit-small (c .before .args .words) (c .if1 .left)
+
+pub row-limit-spec : {M : Type 1} → statement M
+row-limit-spec = tie.close (tie.spec returns returns-2)

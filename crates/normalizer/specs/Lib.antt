@@ -1,0 +1,2 @@
+-- What the loops of normalization keep.
+pub mod Loops

@@ -1,0 +1,221 @@
+-- What each mark adds, along the links and upward, and the first number without a mark.
+-- Assumes nothing.
+use Prim.Native.Nat.{ℕ, zero, suc, _+_, _-_, _≤_, _<_}
+use native.Mathlib.Nat.{le-refl}
+use native.Mathlib.Numerals.{add-one}
+use native.Mathlib.Omega.{arith}
+use mathlib.Core.Bool.{Bool, true, false, cond, _||_}
+use mathlib.Core.List.{List, [], _∷_, _++_}
+use mathlib.Core.Path.{_≡_, refl, sym, ap, _∙_, subst}
+use lib.ListN.{length, getD, set, replicate, length-set, getD-replicate}
+use lib.Seq.{getD-set-same, getD-set-other}
+use lib.Dec.{eqb, ltb}
+use borrow.Author.Tests.{lt-ltb, le-ltb, eqb-true, eqb-false, eq-eqb, ne-eqb}
+use Rattle.rules.specs.Lists.{anyOf}
+use Rattle.rules.specs.Table.{Node, nodes, nodeAt, node, rowCount, isElement}
+use Rattle.rules.specs.Lookups.{declares, ownDeclarations, scopeAt}
+use Rattle.rules.specs.Normalization.{numberedPrefix, leastFree}
+use Rattle.rules.proofs.Lists.{by-cases, anyOf-append}
+use Rattle.rules.proofs.Table.{length-nodes}
+use Rattle.rules.proofs.Scope.{scope-split}
+use Rattle.rules.proofs.Prefixes.{least-free}
+use Rattle.rules.proofs.Bounds.{scope-count}
+use Rattle.index.specs.Links.{Stop, owned, rowsFrom}
+use Rattle.index.proofs.Walk.{stop-first, stop-next, next-later, rows-next, rows-end, declarations-first}
+use Rattle.climb.proofs.Words.{type-word}
+use Rattle.scope.specs.Ready.{Ready, Element, Up}
+use Rattle.numbering.specs.Numbers.{numberOf}
+use Rattle.numbering.specs.Marks.{inUse, Marking, leastUnmarked}
+use Rattle.numbering.proofs.Reading.{number-same}
+
+or-assoc : (a b c : Bool) → ((a || b) || c) ≡ (a || (b || c))
+or-assoc true b c = refl
+or-assoc false b c = refl
+
+or-none : (a : Bool) → (a || false) ≡ a
+or-none true = refl
+or-none false = refl
+
+pub marking-start : (marks : List ℕ) (whole : List Node) → length marks ≡ 1026 → Marking marks whole marks whole
+marking-start marks whole size = record { size = size; each = λ k one few. refl }
+
+-- Some of the declarations are marked.
+pub marking-step : (start : List ℕ) (whole : List Node) (marks : List ℕ) (ds rest : List Node) (after : List ℕ) → Marking start whole marks (ds ++ rest) → Marking marks ds after [] → Marking start whole after rest
+marking-step start whole marks ds rest after h step =
+    record {
+      size = step .size;
+      each = λ k one few.
+          let test = declares (numberedPrefix k) in
+          let now? : eqb (getD after k 0) 1 ≡ inUse marks ds k = sym (or-none (eqb (getD after k 0) 1)) ∙ step .each k one few in
+          ap (λ (t : Bool). t || anyOf test rest) now?
+          ∙ or-assoc (eqb (getD marks k 0) 1) (anyOf test ds) (anyOf test rest)
+          ∙ ap (λ (t : Bool). eqb (getD marks k 0) 1 || t) (sym (anyOf-append test ds rest))
+          ∙ h .each k one few;
+    }
+
+-- One declaration.
+module _ (marks : List ℕ) (size : length marks ≡ 1026) (table pool : List ℕ) (r : ℕ) (j : ℕ) (read : j ≡ numberOf (nodeAt table pool r .local .bytes)) where
+  abbrev d : Node
+  d = nodeAt table pool r
+
+  declared? : (k : ℕ) → 1 ≤ k → k < 1026 → declares (numberedPrefix k) d ≡ eqb j k
+  declared? k one few = number-same (d .local .bytes) k one (omega arith) ∙ ap (λ (n : ℕ). eqb n k) (sym read)
+
+  pub marking-one : j < 1026 → Marking marks (d ∷ []) (set marks j 1) []
+  marking-one less =
+      record {
+        size = length-set marks j 1 ∙ size;
+        each = λ k one few.
+            by-cases (eqb j k)
+            (λ q.
+            let same : j ≡ k = eqb-true j k q in
+            let there : j < length marks = omega arith in
+            let left? : eqb (getD (set marks j 1) k 0) 1 ≡ true = eq-eqb (getD (set marks j 1) k 0) 1 (ap (λ (n : ℕ). getD (set marks j 1) n 0) (sym same) ∙ getD-set-same marks j 1 0 there) in
+            or-none (eqb (getD (set marks j 1) k 0) 1) ∙ left? ∙ sym (all-true (eqb (getD marks k 0) 1) (declared? k one few ∙ q)))
+            (λ q.
+            let other : k ≡ j → ⊥ = λ e. eqb-false j k q (sym e) in
+            or-none (eqb (getD (set marks j 1) k 0) 1)
+            ∙ ap (λ (n : ℕ). eqb n 1) (getD-set-other marks j k 1 0 other)
+            ∙ sym (none-true (eqb (getD marks k 0) 1) (declared? k one few ∙ q)));
+      }
+    where
+      all-true : (a : Bool) {b : Bool} → b ≡ true → (a || (b || false)) ≡ true
+      all-true true {b} e = refl
+      all-true false {b} e = or-none b ∙ e
+
+      none-true : (a : Bool) {b : Bool} → b ≡ false → (a || (b || false)) ≡ a
+      none-true true {b} e = refl
+      none-true false {b} e = or-none b ∙ e
+
+  pub marking-none : 1026 ≤ j → Marking marks (d ∷ []) marks []
+  marking-none more =
+      record {
+        size = size;
+        each = λ k one few.
+            let other : j ≡ k → ⊥ = λ e. omega arith in
+            let q : declares (numberedPrefix k) d ≡ false = declared? k one few ∙ ne-eqb j k other in
+            ap (λ (t : Bool). eqb (getD marks k 0) 1 || (t || false)) (sym q);
+      }
+
+-- The walk along an element's declarations has come to r.
+pub record Walked (table pool : List ℕ) (e : ℕ) (start marks : List ℕ) (r : ℕ) : Type 0 where
+  pub stop : Stop (owned table 13 e) (rowCount table) r
+  pub left : Marking start (ownDeclarations (nodes table pool) e) marks (rowsFrom table pool 13 e r)
+
+module _ (table pool first next : List ℕ) (ready : Ready table first next) (e : ℕ) (within : e < rowCount table) (start : List ℕ) where
+  inside : e < length first
+  inside = omega (arith, ready .places)
+
+  pub walked-first : length start ≡ 1026 → (r : ℕ) → r ≡ getD first e 0 → Walked table pool e start start r
+  walked-first size r read =
+      rw read
+      (record {
+        stop = stop-first (owned table 13) (rowCount table) first next (ready .linked) (ready .limit) e inside;
+        left =
+            subst (Marking start (ownDeclarations (nodes table pool) e) start)
+            (declarations-first table pool first next (ready .linked) (ready .limit) e inside)
+            (marking-start start (ownDeclarations (nodes table pool) e) size);
+      })
+
+  module _ (marks : List ℕ) (r : ℕ) (walked : Walked table pool e start marks r) where
+    pub walked-end : rowCount table ≤ r → Marking start (ownDeclarations (nodes table pool) e) marks []
+    walked-end past = subst (Marking start (ownDeclarations (nodes table pool) e) marks) (rows-end table pool 13 e r past) (walked .left)
+
+    module _ (less : r < rowCount table) where
+      pub walked-falls : (r′ : ℕ) → r′ ≡ getD next r 0 → r < r′
+      walked-falls r′ read =
+          rw read
+          (next-later (owned table 13) (rowCount table) first next (ready .linked) (ready .limit) e inside r less (walked .stop less))
+
+      pub walked-next : (after : List ℕ) → Marking marks (nodeAt table pool r ∷ []) after [] → (r′ : ℕ) → r′ ≡ getD next r 0 → Walked table pool e start after r′
+      walked-next after one r′ read =
+          rw read
+          (record {
+            stop = stop-next (owned table 13) (rowCount table) first next (ready .linked) (ready .limit) e inside r less (walked .stop less);
+            left =
+                marking-step start (ownDeclarations (nodes table pool) e) marks (nodeAt table pool r ∷ []) (rowsFrom table pool 13 e (getD next r 0)) after
+                (subst (Marking start (ownDeclarations (nodes table pool) e) marks)
+                (rows-next table pool 13 first next (ready .linked) (ready .limit) e inside r less (walked .stop less)) (walked .left))
+                one;
+          })
+
+-- The climb from an element has come to e, whose scope is still to be marked.
+pub record Climbed (table pool : List ℕ) (bottom : ℕ) (start marks : List ℕ) (e : ℕ) : Type 0 where
+  pub low : e ≤ bottom
+  pub element : Element table e
+  pub left : Marking start (scopeAt (nodes table pool) bottom) marks (scopeAt (nodes table pool) e)
+
+module _ (table pool : List ℕ) (bottom : ℕ) (start marks : List ℕ) (e : ℕ) (climbed : Climbed table pool bottom start marks e)
+    (u : ℕ) (up : Up (nodes table pool) e u) (after : List ℕ) (own : Marking marks (ownDeclarations (nodes table pool) e) after []) where
+  is : isElement (node (nodes table pool) e .type) ≡ true
+  is = ap isElement (type-word table pool e (climbed .element .within)) ∙ climbed .element .type
+
+  onward : Marking start (scopeAt (nodes table pool) bottom) after (cond (ltb u e) (scopeAt (nodes table pool) u) [])
+  onward =
+      marking-step start (scopeAt (nodes table pool) bottom) marks (ownDeclarations (nodes table pool) e) (cond (ltb u e) (scopeAt (nodes table pool) u) []) after
+      (subst (Marking start (scopeAt (nodes table pool) bottom) marks)
+      (scope-split (nodes table pool) e is ∙ ap (λ (l : List Node). ownDeclarations (nodes table pool) e ++ l) (up .scope)) (climbed .left))
+      own
+
+  pub climbed-next : u < e → Climbed table pool bottom start after u
+  climbed-next falls =
+      record {
+        low = omega (arith, climbed .low);
+        element =
+            let there : u < rowCount table = omega (arith, climbed .element .within) in
+            record { within = there; type = ap isElement (sym (type-word table pool u there)) ∙ up .element falls };
+        left = rw (lt-ltb u e falls) at onward;
+      }
+
+  pub climbed-end : e ≤ u → Marking start (scopeAt (nodes table pool) bottom) after []
+  climbed-end stays = rw (le-ltb u e stays) at onward
+
+-- The scan for the first number without a mark.
+module _ (marks : List ℕ) (k : ℕ) (less : k < 1025) where
+  steps : 1025 - k ≡ suc (1025 - (k + 1))
+  steps = omega arith
+
+  scan : leastUnmarked (1025 - k) marks k ≡ cond (eqb (getD marks k 0) 1) (leastUnmarked (1025 - (k + 1)) marks (k + 1)) k
+  unfolding leastUnmarked
+  scan = ap (λ (n : ℕ). leastUnmarked n marks k) steps ∙ rw (add-one k) refl
+
+  pub scan-next : getD marks k 0 ≡ 1 → leastUnmarked (1025 - (k + 1)) marks (k + 1) ≡ leastUnmarked (1025 - k) marks k
+  scan-next q = sym (scan ∙ rw (eq-eqb (getD marks k 0) 1 q) refl)
+
+  pub scan-hit : (getD marks k 0 ≡ 1 → ⊥) → leastUnmarked (1025 - k) marks k ≡ k
+  scan-hit q = scan ∙ rw (ne-eqb (getD marks k 0) 1 q) refl
+
+pub scan-end : (marks : List ℕ) (k : ℕ) → 1025 ≤ k → leastUnmarked (1025 - k) marks k ≡ k
+unfolding leastUnmarked
+scan-end marks k more = let none? : 1025 - k ≡ 0 = omega arith in ap (λ (n : ℕ). leastUnmarked n marks k) none?
+
+-- The scan finds what the definition finds.
+unmarked-free : (marks : List ℕ) (scope : List Node) (steps k : ℕ) → ((j : ℕ) → k ≤ j → j < k + steps → eqb (getD marks j 0) 1 ≡ anyOf (declares (numberedPrefix j)) scope) → leastUnmarked steps marks k ≡ leastFree steps scope k
+unfolding leastUnmarked leastFree
+unmarked-free marks scope zero k same = refl
+unmarked-free marks scope (suc steps) k same =
+    rw (same k (le-refl k) (omega arith), unmarked-free marks scope steps (suc k) (λ j low high. same j (omega arith) (omega arith))) refl
+
+-- Steps beyond those that reach a free number change nothing.
+free-more : (scope : List Node) (steps more k : ℕ) → steps ≤ more → anyOf (declares (numberedPrefix (leastFree steps scope k))) scope ≡ false → leastFree more scope k ≡ leastFree steps scope k
+unfolding leastFree
+free-more scope zero zero k enough free = refl
+free-more scope zero (suc more) k enough free = rw free refl
+free-more scope (suc steps) zero k enough free = absurd (omega arith)
+free-more scope (suc steps) (suc more) k enough free =
+    by-cases (anyOf (declares (numberedPrefix k)) scope)
+    (λ q. rw q (free-more scope steps more (suc k) (omega arith) (rw q at free)))
+    (λ q. rw q refl)
+
+pub unmarked-least : (table pool : List ℕ) (e : ℕ) → rowCount table ≤ 1024 → (marks : List ℕ) → Marking (replicate 1026 0) (scopeAt (nodes table pool) e) marks [] → leastUnmarked 1024 marks 1 ≡ leastFree (length (scopeAt (nodes table pool) e)) (scopeAt (nodes table pool) e) 1
+unmarked-least table pool e few marks h =
+    let scope = scopeAt (nodes table pool) e in
+    let count = scope-count (nodes table pool) e in
+    let size = length-nodes table pool in
+    unmarked-free marks scope 1024 1 (λ j low high. marked-scope marks scope h j low (omega arith))
+    ∙ free-more scope (length scope) 1024 1 (omega arith) (least-free scope 1)
+  where
+    marked-scope : (marks : List ℕ) (scope : List Node) → Marking (replicate 1026 0) scope marks [] → (j : ℕ) → 1 ≤ j → j < 1026 → eqb (getD marks j 0) 1 ≡ anyOf (declares (numberedPrefix j)) scope
+    marked-scope marks scope h j one few =
+        sym (or-none (eqb (getD marks j 0) 1)) ∙ h .each j one few
+        ∙ ap (λ (n : ℕ). eqb n 1 || anyOf (declares (numberedPrefix j)) scope) (getD-replicate {A = ℕ} 1026 j 0 0 few)
