@@ -10,8 +10,8 @@ ghost use Rattle.rules.specs.Normalization.{normalized};
 pub extern "C" fn measured_check(table: &[u32], pool: &[u8]) -> u32
     ensures { λ r. ⌜ r ≡ checkNumber (checked (now (table .entry)) (now (pool .entry))) .number ⌝ }
 {
-    let given = answers::check_number(checker::check(table, pool));
-    given.number
+    let refusal = answers::check_number(checker::check(table, pool));
+    refusal.number
 }
 
 // The number of the refusal that normalization answers, 0 for success.

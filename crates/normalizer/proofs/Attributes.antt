@@ -63,9 +63,9 @@ module _ (total e : ℕ) (ns ms : List Node) (k : Kept total e ns ms) where
   upward-kept up within h =
       record {
         room = h .room;
-        each = λ x less.
+        each = λ x less is.
             let u = getD up x 0 in
-            let one = h .each x less in
+            let one = h .each x less (rw (k .core x (omega arith) .type) at is) in
             record {
               element = λ falls. rw (k .core u (omega arith) .type) (one .element falls);
               beyond = one .beyond;

@@ -9,21 +9,20 @@ use mathlib.Core.List.{List, [], _∷_, _++_}
 use mathlib.Core.Path.{_≡_, refl, sym, ap, _∙_, subst}
 use lib.ListN.{length, getD, set, replicate, length-set, getD-replicate}
 use lib.Seq.{getD-set-same, getD-set-other}
-use lib.Dec.{eqb, ltb}
-use borrow.Author.Tests.{lt-ltb, le-ltb, eqb-true, eqb-false, eq-eqb, ne-eqb}
+use lib.Dec.{eqb}
+use borrow.Author.Tests.{eqb-true, eqb-false, eq-eqb, ne-eqb}
 use Rattle.rules.specs.Lists.{anyOf}
-use Rattle.rules.specs.Table.{Node, nodes, nodeAt, node, rowCount, isElement}
+use Rattle.rules.specs.Table.{Node, nodes, nodeAt, rowCount}
 use Rattle.rules.specs.Lookups.{declares, ownDeclarations, scopeAt}
 use Rattle.rules.specs.Normalization.{numberedPrefix, leastFree}
 use Rattle.rules.proofs.Lists.{by-cases, anyOf-append}
 use Rattle.rules.proofs.Table.{length-nodes}
-use Rattle.rules.proofs.Scope.{scope-split}
 use Rattle.rules.proofs.Prefixes.{least-free}
 use Rattle.rules.proofs.Bounds.{scope-count}
 use Rattle.index.specs.Links.{Stop, owned, rowsFrom}
 use Rattle.index.proofs.Walk.{stop-first, stop-next, next-later, rows-next, rows-end, declarations-first}
-use Rattle.climb.proofs.Words.{type-word}
 use Rattle.scope.specs.Ready.{Ready, Element, Up}
+use Rattle.scope.proofs.Upwards.{outer-element, scope-outer, scope-outermost}
 use Rattle.numbering.specs.Numbers.{numberOf}
 use Rattle.numbering.specs.Marks.{inUse, Marking, leastUnmarked}
 use Rattle.numbering.proofs.Reading.{number-same}
@@ -147,28 +146,23 @@ pub record Climbed (table pool : List ℕ) (bottom : ℕ) (start marks : List �
 
 module _ (table pool : List ℕ) (bottom : ℕ) (start marks : List ℕ) (e : ℕ) (climbed : Climbed table pool bottom start marks e)
     (u : ℕ) (up : Up (nodes table pool) e u) (after : List ℕ) (own : Marking marks (ownDeclarations (nodes table pool) e) after []) where
-  is : isElement (node (nodes table pool) e .type) ≡ true
-  is = ap isElement (type-word table pool e (climbed .element .within)) ∙ climbed .element .type
-
-  onward : Marking start (scopeAt (nodes table pool) bottom) after (cond (ltb u e) (scopeAt (nodes table pool) u) [])
-  onward =
-      marking-step start (scopeAt (nodes table pool) bottom) marks (ownDeclarations (nodes table pool) e) (cond (ltb u e) (scopeAt (nodes table pool) u) []) after
-      (subst (Marking start (scopeAt (nodes table pool) bottom) marks)
-      (scope-split (nodes table pool) e is ∙ ap (λ (l : List Node). ownDeclarations (nodes table pool) e ++ l) (up .scope)) (climbed .left))
+  -- with `rest` above the element
+  onward : (rest : List Node) → scopeAt (nodes table pool) e ≡ ownDeclarations (nodes table pool) e ++ rest → Marking start (scopeAt (nodes table pool) bottom) after rest
+  onward rest split =
+      marking-step start (scopeAt (nodes table pool) bottom) marks (ownDeclarations (nodes table pool) e) rest after
+      (subst (Marking start (scopeAt (nodes table pool) bottom) marks) split (climbed .left))
       own
 
   pub climbed-next : u < e → Climbed table pool bottom start after u
   climbed-next falls =
       record {
         low = omega (arith, climbed .low);
-        element =
-            let there : u < rowCount table = omega (arith, climbed .element .within) in
-            record { within = there; type = ap isElement (sym (type-word table pool u there)) ∙ up .element falls };
-        left = rw (lt-ltb u e falls) at onward;
+        element = outer-element table pool e (climbed .element) u up falls;
+        left = onward (scopeAt (nodes table pool) u) (scope-outer table pool e (climbed .element) u up falls);
       }
 
   pub climbed-end : e ≤ u → Marking start (scopeAt (nodes table pool) bottom) after []
-  climbed-end stays = rw (le-ltb u e stays) at onward
+  climbed-end stays = onward [] (scope-outermost table pool e (climbed .element) u up stays)
 
 -- The scan for the first number without a mark.
 module _ (marks : List ℕ) (k : ℕ) (less : k < 1025) where

@@ -1,8 +1,9 @@
 // Reading a row of a lent table. `word` and `field` ask nothing of the row: beyond the table every word is 0.
-// `word_within` and `field_within` read a row that is known to be in the table, and test nothing.
+// `word_within`, `field_within` and `field_is` read a row that is known to be in the table, and test nothing.
 ghost use mathlib.Core.Path.{_≡_};
 ghost use Prim.Native.Nat.{_+_, _*_, _<_};
 ghost use lib.ListN.{getD};
+ghost use Rattle.rules.specs.Lists.{sameBytes};
 ghost use Rattle.rules.specs.Table.{word, fieldAt, rowCount};
 use rules::Offset;
 use rules::Row;
@@ -62,4 +63,13 @@ pub fn field_within<'p>(table: &[u32], pool: &'p [u8], row: Row, k: u32) -> &'p 
 {
     let offset = Offset(word_within(table, row, k));
     names::part(pool, offset, word_within(table, row, k + 1))
+}
+
+// The field of a row that is in the table is this name.
+pub fn field_is(table: &[u32], pool: &[u8], row: Row, k: u32, name: &[u8]) -> bool
+    requires { ⌜ (row .0 < rowCount (now table)) × (k < 9) ⌝ }
+    ensures { λ r. ⌜ r ≡ sameBytes (fieldAt (now (table .entry)) (now (pool .entry)) (row .0) k .bytes) (now (name .entry)) ⌝ }
+{
+    let offset = Offset(word_within(table, row, k));
+    names::is_part(pool, offset, word_within(table, row, k + 1), name)
 }

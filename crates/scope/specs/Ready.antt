@@ -22,16 +22,16 @@ pub record Element (table : List ℕ) (e : ℕ) : Type 0 where
   pub within : e < rowCount table
   pub type : isElement (word table e 0) ≡ true
 
--- u is the nearest element above row x that has declarations, or NONE. What is in scope at x from above is what is in scope at u.
+-- u is the nearest ancestor element of element x that has declarations, or NONE. What is in scope at x from above is what is in scope at u.
 pub record Up (ns : List Node) (x u : ℕ) : Type 0 where
   pub element : u < x → isElement (node ns u .type) ≡ true
   pub beyond : x ≤ u → u ≡ NONE
   pub scope : above ns x ≡ cond (ltb u x) (scopeAt ns u) []
 
--- The rows below count have their places in `up`.
+-- The elements below count have their places in `up`.
 pub record Upward (ns : List Node) (up : List ℕ) (count : ℕ) : Type 0 where
   pub room : count ≤ length up
-  pub each : (x : ℕ) → x < count → Up ns x (getD up x 0)
+  pub each : (x : ℕ) → x < count → isElement (node ns x .type) ≡ true → Up ns x (getD up x 0)
 
 -- The place of the field whose offset is word k of row r.
 abbrev pub placeAt : List ℕ → ℕ → ℕ → Place

@@ -38,7 +38,7 @@ fn declares(table: &[u32], pool: &[u8], row: Row, prefix: &[u8]) -> bool
     requires { ⌜ row .0 < rowCount (now table) ⌝ }
     ensures { λ r. ⌜ r ≡ declares (now (prefix .entry)) (nodeAt (now (table .entry)) (now (pool .entry)) (row .0)) ⌝ }
 {
-    names::same(rows::field_within(table, pool, row, 4), prefix)
+    rows::field_is(table, pool, row, 4, prefix)
 }
 
 // An element's own declaration of a prefix.
@@ -67,33 +67,26 @@ pub fn own_declaration(
     Row(NONE)
 }
 
-// The nearest element above a row that has declarations, from what `up` has for the rows before. The
+// The nearest ancestor element that has declarations, from what `up` has for the elements before. The
 // pool is there for the contract alone: what is in scope is rows with their names.
-pub fn above(table: &[u32], pool: &[u8], first: &[u32], next: &[u32], up: &[u32], row: Row) -> Row
+fn above(table: &[u32], pool: &[u8], first: &[u32], next: &[u32], up: &[u32], element: Row) -> Row
     requires { ⌜ Ready (now table) (now first) (now next) ⌝ }
-    requires { ⌜ row .0 < rowCount (now table) ⌝ }
-    requires { ⌜ Upward (nodes (now table) (now pool)) (now up) (row .0) ⌝ }
-    ensures { λ r. ⌜ Up (nodes (now (table .entry)) (now (pool .entry))) (row .0) (r .0) ⌝ }
+    requires { ⌜ Element (now table) (element .0) ⌝ }
+    requires { ⌜ Upward (nodes (now table) (now pool)) (now up) (element .0) ⌝ }
+    ensures { λ r. ⌜ Up (nodes (now (table .entry)) (now (pool .entry))) (element .0) (r .0) ⌝ }
 {
-    let parent = rows::word(table, row, 1);
-    if row.0 <= parent {
+    let outer = climb::ancestor(table, element);
+    if element.0 <= outer.0 {
         return Row(NONE);
     }
-    let kind = rows::word(table, Row(parent), 0);
-    let p = wide(parent);
-    if climb::is_element(kind) {
-        if wide(first[p]) < table.len() / 10 {
-            return Row(parent);
-        }
-        return Row(up[p]);
+    let a = wide(outer.0);
+    if wide(first[a]) < table.len() / 10 {
+        return outer;
     }
-    if kind == 5 {
-        return Row(up[p]);
-    }
-    Row(NONE)
+    Row(up[a])
 }
 
-// Enters a row into `up`, which has the rows before it.
+// Enters a row, if it is an element, into `up`, which has the elements before it.
 pub fn link_upward(
     table: &[u32],
     pool: &[u8],
@@ -108,12 +101,14 @@ pub fn link_upward(
     requires { ⌜ row .0 < length (now up) ⌝ }
     ensures { λ _. ⌜ Upward (nodes (now (table .entry)) (now (pool .entry))) (now (up .exit)) (row .0 + 1) ⌝ }
 {
-    let outer = above(table, pool, first, next, up, row);
-    let r = wide(row.0);
-    up[r] = outer.0;
+    if climb::is_element(rows::word(table, row, 0)) {
+        let outer = above(table, pool, first, next, up, row);
+        let r = wide(row.0);
+        up[r] = outer.0;
+    }
 }
 
-// Enters an element and all rows before it into `up`.
+// Enters an element and all elements before it into `up`.
 pub fn link_up_to(
     table: &[u32],
     pool: &[u8],
@@ -259,7 +254,7 @@ fn serves(
     requires { ⌜ row .0 < rowCount (now table) ⌝ }
     ensures { λ r. ⌜ r ≡ serves (scopeAt (nodes (now (table .entry)) (now (pool .entry))) (start .0)) (now (uri .entry)) (nodeAt (now (table .entry)) (now (pool .entry)) (row .0)) ⌝ }
 {
-    if !names::same(rows::field_within(table, pool, row, 8), uri) {
+    if !rows::field_is(table, pool, row, 8, uri) {
         return false;
     }
     let prefix = rows::field_within(table, pool, row, 4);

@@ -1,7 +1,7 @@
 -- One step of each lookup outward from an element, and what the code reads of a row.
 -- Assumes nothing.
 use Prim.Native.Nat.{ℕ, _≤_, _<_}
-use mathlib.Core.Bool.{true, false, cond}
+use mathlib.Core.Bool.{true, false, cond, _&&_, not}
 use mathlib.Core.List.{List, [], _∷_}
 use mathlib.Core.Option.{none, some}
 use mathlib.Core.Path.{_≡_, refl, sym, ap, _∙_}
@@ -10,11 +10,11 @@ use lib.Dec.{eqb}
 use borrow.Author.Tests.{eq-eqb, ne-eqb}
 use Rattle.rules.specs.Lists.{firstThat, isEmpty, sameBytes}
 use Rattle.rules.specs.Table.{NONE, Node, part, nodes, nodeAt, fieldAt, rowCount, word}
-use Rattle.rules.specs.Lookups.{elementsFrom, ancestorElement, ownDeclarations, declares, unlessEmpty, declaredValueOr, uriOfPrefix, leadsTo, declaredPrefixOr, prefixAmong, prefixOfUri, valueEqualsOr, isDefault, located, locatedPart}
+use Rattle.rules.specs.Lookups.{elementsFrom, ancestorElement, ownDeclarations, declares, unlessEmpty, declaredValueOr, hasName, uriOfPrefix, leadsTo, declaredPrefixOr, prefixAmong, prefixOfUri, valueEqualsOr, isDefault, located, locatedPart}
 use Rattle.rules.specs.declared.Place.{Place}
 use Rattle.rules.specs.declared.Located.{Located}
 use Rattle.rules.specs.declared.Refusal.{Refusal}
-use Rattle.rules.proofs.Lists.{length-empty}
+use Rattle.rules.proofs.Lists.{length-empty, both-true, not-true}
 use Rattle.rules.proofs.Table.{node-nodes}
 use Rattle.climb.specs.Found.{found, rowOr}
 use Rattle.climb.proofs.Elements.{above}
@@ -24,14 +24,14 @@ use Rattle.scope.proofs.Outward.{element-first, outward, outward-end}
 use Rattle.scope.proofs.Answers.{empty-yes, empty-no}
 use Rattle.search.specs.Tests.{namesUri, namesPrefix, givesPrefix, namesDefault}
 
--- The value of a declaration.
-module _ (table pool : List ℕ) (r : ℕ) (bytes : List ℕ) (read : bytes ≡ fieldAt table pool r 8 .bytes) where
-  pub value-empty : length bytes ≡ 0 → Located.Nothing ≡ located (unlessEmpty (fieldAt table pool r 8))
-  value-empty e = sym (ap (λ t. located (cond t none (some (fieldAt table pool r 8)))) (ap isEmpty (sym read) ∙ empty-yes bytes e))
+-- A field that may be empty.
+module _ (table pool : List ℕ) (r k : ℕ) (bytes : List ℕ) (read : bytes ≡ fieldAt table pool r k .bytes) where
+  pub field-empty : length bytes ≡ 0 → Located.Nothing ≡ located (unlessEmpty (fieldAt table pool r k))
+  field-empty e = sym (ap (λ t. located (cond t none (some (fieldAt table pool r k)))) (ap isEmpty (sym read) ∙ empty-yes bytes e))
 
-  pub value-place : (length bytes ≡ 0 → ⊥) → (p : Place) → p ≡ placeAt table r 8 → Located.At p ≡ located (unlessEmpty (fieldAt table pool r 8))
-  value-place full p is =
-      ap Located.At is ∙ sym (ap (λ t. located (cond t none (some (fieldAt table pool r 8)))) (ap isEmpty (sym read) ∙ empty-no bytes full))
+  pub field-filled : (length bytes ≡ 0 → ⊥) → (p : Place) → p ≡ placeAt table r k → Located.At p ≡ located (unlessEmpty (fieldAt table pool r k))
+  field-filled full p is =
+      ap Located.At is ∙ sym (ap (λ t. located (cond t none (some (fieldAt table pool r k)))) (ap isEmpty (sym read) ∙ empty-no bytes full))
 
 -- What an element's own name says.
 module _ (table pool : List ℕ) (e kind : ℕ) (read : kind ≡ word table e 0) where
@@ -67,9 +67,13 @@ module _ (table pool prefix : List ℕ) (e : ℕ) (element : Element table e) wh
       (node-nodes table pool e (element .within))
 
   pub uri-own :
-      namesUri prefix (nodeAt table pool e) ≡ true → (p : Place) → p ≡ placeAt table e 6
-      → Located.At p ≡ located (uriOfPrefix (nodes table pool) prefix (elementsFrom (nodes table pool) e))
-  uri-own is p at = rw (at, uri-step (above (nodes table pool) e) (element-first table pool e element), is) refl
+      namesUri prefix (nodeAt table pool e) ≡ true
+      → located (unlessEmpty (fieldAt table pool e 6)) ≡ located (uriOfPrefix (nodes table pool) prefix (elementsFrom (nodes table pool) e))
+  uri-own is =
+      let named = both-true (hasName (nodeAt table pool e) && not (isEmpty (nodeAt table pool e .uri .bytes))) (sameBytes (nodeAt table pool e .prefix .bytes) prefix) is .0 in
+      let full = both-true (hasName (nodeAt table pool e)) (not (isEmpty (nodeAt table pool e .uri .bytes))) named .1 in
+      rw (uri-step (above (nodes table pool) e) (element-first table pool e element), is)
+      (ap (λ t. located (cond t none (some (fieldAt table pool e 6)))) (not-true (isEmpty (fieldAt table pool e 6 .bytes)) full))
 
   -- The element's own name does not answer, and d is its own declaration of the prefix, if there is one.
   module _ (other : namesUri prefix (nodeAt table pool e) ≡ false) (d : ℕ) (own : found (nodes table pool) d ≡ firstThat (declares prefix) (ownDeclarations (nodes table pool) e)) where

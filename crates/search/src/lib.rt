@@ -3,7 +3,7 @@
 ghost use mathlib.Core.Path.{_≡_};
 ghost use mathlib.Core.Bool.{true};
 ghost use mathlib.Core.List.{List};
-ghost use Prim.Native.Nat.{ℕ};
+ghost use Prim.Native.Nat.{ℕ, _<_};
 ghost use Rattle.rules.specs.Lists.{firstThat, sameBytes};
 ghost use Rattle.rules.specs.Table.{nodes, nodeAt, fieldAt};
 ghost use Rattle.rules.specs.Lookups.{elementsFrom, ownDeclarations, unlessEmpty, uriOfPrefix, leadsTo, prefixAmong, prefixOfUri, isDefault, located, locatedPart};
@@ -33,14 +33,15 @@ fn names_uri(table: &[u32], pool: &[u8], element: Row, prefix: &[u8]) -> bool
     names::same(rows::field(table, pool, element, 2), prefix)
 }
 
-// The value of a declaration, or nothing when it is empty.
-fn value(table: &[u32], pool: &[u8], row: Row) -> Located
-    ensures { λ r. ⌜ r ≡ located (unlessEmpty (fieldAt (now (table .entry)) (now (pool .entry)) (row .0) 8)) ⌝ }
+// The place of the field whose offset is word k of a row, or nothing when it is empty.
+fn filled_place(table: &[u32], pool: &[u8], row: Row, k: u32) -> Located
+    requires { ⌜ k < 9 ⌝ }
+    ensures { λ r. ⌜ r ≡ located (unlessEmpty (fieldAt (now (table .entry)) (now (pool .entry)) (row .0) k)) ⌝ }
 {
-    if rows::field(table, pool, row, 8).len() == 0 {
+    if rows::field(table, pool, row, k).len() == 0 {
         return Located::Nothing;
     }
-    Located::At(scope::place(table, row, 8))
+    Located::At(scope::place(table, row, k))
 }
 
 // The URI of a prefix, from an element outward.
@@ -56,12 +57,14 @@ pub fn uri_of_prefix(
     requires { ⌜ Element (now table) (element .0) ⌝ }
     ensures { λ r. ⌜ r ≡ located (uriOfPrefix (nodes (now (table .entry)) (now (pool .entry))) (now (prefix .entry)) (elementsFrom (nodes (now (table .entry)) (now (pool .entry))) (element .0))) ⌝ }
 {
-    if names_uri(table, pool, element, prefix) {
-        return Located::At(scope::place(table, element, 6));
-    }
+    let named = names_uri(table, pool, element, prefix);
     let own = scope::own_declaration(table, pool, first, next, element, prefix);
-    if wide(own.0) < table.len() / 10 {
-        return value(table, pool, own);
+    let declared = wide(own.0) < table.len() / 10;
+    if named {
+        return filled_place(table, pool, element, 6);
+    }
+    if declared {
+        return filled_place(table, pool, own, 8);
     }
     let outer = climb::ancestor(table, element);
     if outer.0 < element.0 {
@@ -140,12 +143,12 @@ fn gives_prefix(
     requires { ⌜ Element (now table) (start .0) ⌝ }
     ensures { λ r. ⌜ r ≡ givesPrefix (nodes (now (table .entry)) (now (pool .entry))) (elementsFrom (nodes (now (table .entry)) (now (pool .entry))) (start .0)) (now (uri .entry)) (nodeAt (now (table .entry)) (now (pool .entry)) (row .0)) ⌝ }
 {
-    let prefix = rows::field(table, pool, row, 4);
-    if prefix.len() == 0 {
+    let declared = rows::field(table, pool, row, 4);
+    if declared.len() == 0 {
         return false;
     }
     if names::same(rows::field(table, pool, row, 8), uri) {
-        return leads_to(table, pool, first, next, start, uri, prefix);
+        return leads_to(table, pool, first, next, start, uri, declared);
     }
     false
 }

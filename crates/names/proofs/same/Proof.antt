@@ -1,71 +1,70 @@
--- `names::same` meets its contract. The invariant: comparing what is left, the first i bytes, gives the answer.
+-- `names::same` meets its contract: by the lengths, the last bytes, and the bytes before them.
 -- Assumes nothing.
-use Prim.Native.Nat.{_≤_, _-_}
-use mathlib.Core.Path.{_≡_, sym, _∙_}
+use mathlib.Core.Path.{sym, _∙_}
 use native.Mathlib.Omega.{arith}
 use denote.Ref.{now}
-use lib.ListN.{length, take}
-use Rattle.rules.specs.Lists.{sameBytes}
-use Rattle.names.proofs.Bytes.{same-lengths, same-differ, same-before, same-start, same-none}
+use Rattle.names.proofs.Bytes.{same-lengths, same-empty, same-differ, same-last}
+use borrow.Author.Needs.{needs}
 use Rattle.names.proofs.same.Statement.{statement}
 use Rattle.names.proofs.same.Tie as tie
 
-abbrev Inv-loop : tie.InvT-loop
-Inv-loop a b i₀ i = (i ≤ length a) × (sameBytes (take i a) (take i b) ≡ sameBytes a b)
-
-abbrev μ-loop : tie.MeasureT-loop
-μ-loop a b i₀ i = i
-
-returns : tie.Need-returns Inv-loop μ-loop
+returns : tie.Need-returns
 returns c =
-    let s = c .before in
-    sym (same-lengths (now (s .args .a)) (now (s .args .b)) (c .if1 .taken))
-
-loop-holds : tie.Need-loop-holds Inv-loop μ-loop
-loop-holds c =
-    let s = c .before in
-    (omega arith, same-start (now (s .args .a)) (now (s .args .b)) (omega arith))
-
-sub-i : tie.Need-sub-i Inv-loop μ-loop
-sub-i c = omega arith
-
-shared-slice-read-if2 : tie.Need-shared-slice-read-if2 Inv-loop μ-loop
-shared-slice-read-if2 c = omega arith
-
-shared-slice-read-if2-2 : tie.Need-shared-slice-read-if2-2 Inv-loop μ-loop
-shared-slice-read-if2-2 c = omega arith
-
-returns-2 : tie.Need-returns-2 Inv-loop μ-loop
-returns-2 c =
-    let s = c .before .before .before .before .before .before in
-    sym (same-differ (now (s .args .a)) (now (s .args .b)) _ (c .if2 .taken))
-
-loop-less : tie.Need-loop-less Inv-loop μ-loop
-loop-less c = omega arith
-
-loop-again : tie.Need-loop-again Inv-loop μ-loop
-loop-again c =
-    let s = c .before .before .before .before .before .before in
-    let at-loop = c .before .before .before .before in
-    (omega arith, same-before (now (s .args .a)) (now (s .args .b)) (at-loop .loop .i) (at-loop .loop .i - 1) (omega arith) (omega arith) (omega arith) (c .if2 .left) ∙ at-loop .loop .inv .1)
-
-returns-3 : tie.Need-returns-3 Inv-loop μ-loop
-returns-3 c =
     let s = c .before .before .before in
-    sym (same-none (now (s .args .a)) (now (s .args .b)) (c .before .loop .i) (omega arith)) ∙ c .before .loop .inv .1
+    let a = now (s .args .a) in
+    let b = now (s .args .b) in
+    sym (same-lengths a b (c .if1 .taken))
+
+returns-2 : tie.Need-returns-2
+returns-2 c =
+    let s = c .before .before .before .before in
+    let a = now (s .args .a) in
+    let b = now (s .args .b) in
+    same-empty a b (omega arith) (omega arith)
+
+sub-if3 : tie.Need-sub-if3
+sub-if3 c = search needs
+
+shared-slice-read-if3 : tie.Need-shared-slice-read-if3
+shared-slice-read-if3 c = search needs
+
+sub-if3-2 : tie.Need-sub-if3-2
+sub-if3-2 c = search needs
+
+shared-slice-read-if3-2 : tie.Need-shared-slice-read-if3-2
+shared-slice-read-if3-2 c = search needs
+
+returns-3 : tie.Need-returns-3
+returns-3 c =
+    let s = c .before .before .before .before .before .before .before in
+    let a = now (s .args .a) in
+    let b = now (s .args .b) in
+    sym (same-differ a b _ (c .if3 .taken))
+
+sub-same-first : tie.Need-sub-same-first
+sub-same-first c = search needs
+
+same-first-requires : tie.Need-same-first-requires
+same-first-requires c κs = search needs
+
+returns-4 : tie.Need-returns-4
+returns-4 c =
+    let s = c .before .before .before .before .before .before .before .before in
+    let a = now (s .args .a) in
+    let b = now (s .args .b) in
+    c .same-first .ensures ∙ same-last a b (omega arith) (c .before .before .before .before .if2 .left) (c .before .if3 .left)
 
 pub same-spec : {M : Type 1} → statement M
 same-spec =
     tie.close
     (tie.spec
-    Inv-loop
-    μ-loop
     returns
-    loop-holds
-    sub-i
-    shared-slice-read-if2
-    shared-slice-read-if2-2
     returns-2
-    loop-less
-    loop-again
-    returns-3)
+    sub-if3
+    shared-slice-read-if3
+    sub-if3-2
+    shared-slice-read-if3-2
+    returns-3
+    sub-same-first
+    same-first-requires
+    returns-4)

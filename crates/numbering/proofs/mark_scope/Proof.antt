@@ -1,6 +1,6 @@
 -- `numbering::mark_scope` meets its contract. The invariant: the scope at the element reached is still to be marked.
 -- Assumes nothing.
-use Prim.Native.Nat.{ℕ}
+use Prim.Native.Nat.{ℕ, _+_}
 use mathlib.Core.Path.{sym, _∙_, subst}
 use mathlib.Core.List.{[]}
 use native.Mathlib.Omega.{arith}
@@ -10,6 +10,7 @@ use lib.ListN.{getD}
 use Rattle.rules.specs.Table.{nodes}
 use Rattle.rules.specs.Lookups.{scopeAt}
 use Rattle.scope.specs.Ready.{Element}
+use Rattle.scope.proofs.Upwards.{up-of}
 use Rattle.numbering.specs.Marks.{Marking}
 use Rattle.numbering.proofs.Marking.{Climbed, marking-start, climbed-next, climbed-end}
 use Rattle.numbering.proofs.mark_scope.Statement.{statement}
@@ -65,7 +66,7 @@ returns c =
     let bottom = c .before .before .before .before .before .before .before .before .wide in
     let at = c .before .before .before .before .before .before .before .loop in
     let outer = getD (s .args .up .now) (at .e) 0 in
-    let up = s .pre .1 .1 .0 .each (at .e) (omega (arith, at .inv .low, bottom .ensures)) in
+    let up = up-of table pool (s .args .up .now) (s .args .element .0 + 1) (s .pre .1 .1 .0) (at .e) (at .inv .element) (omega (arith, at .inv .low, bottom .ensures)) in
     let own = c .before .before .before .before .before .mark-own .ensures in
     let after = c .before .before .before .before .before .mark-own .last .1 .1 .1 .1 .0 in
     subst (λ (i : ℕ). Marking start (scopeAt (nodes table pool) i) after []) (bottom .ensures)
@@ -83,7 +84,7 @@ loop-again c =
     let bottom = c .before .before .before .before .before .before .before .before .wide in
     let at = c .before .before .before .before .before .before .before .loop in
     let outer = getD (s .args .up .now) (at .e) 0 in
-    let up = s .pre .1 .1 .0 .each (at .e) (omega (arith, at .inv .low, bottom .ensures)) in
+    let up = up-of table pool (s .args .up .now) (s .args .element .0 + 1) (s .pre .1 .1 .0) (at .e) (at .inv .element) (omega (arith, at .inv .low, bottom .ensures)) in
     let own = c .before .before .before .before .before .mark-own .ensures in
     subst (Climbed table pool (bottom .result) start _) (sym (c .before .wide2 .ensures))
     (climbed-next table pool (bottom .result) start (at .marks) (at .e) (at .inv) outer up _ own (omega (arith, c .before .wide2 .ensures)))

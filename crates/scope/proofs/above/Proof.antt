@@ -1,36 +1,31 @@
--- `scope::above` meets its contract, by the parent's type and whether the parent has declarations.
+-- `scope::above` meets its contract, by what the climb finds and whether that has declarations.
 -- Assumes nothing.
 use Prim.Native.Nat.{ℕ}
 use native.Mathlib.Omega.{arith}
-use mathlib.Core.Path.{_≡_, sym, ap, _∙_, subst}
+use mathlib.Core.Path.{sym, ap, subst}
 use lib.ListN.{getD}
 use borrow.Author.Needs.{needs}
 use Rattle.rules.specs.Table.{nodes}
 use Rattle.scope.specs.Ready.{Up}
-use Rattle.scope.proofs.Upwards.{read-top, read-parent, read-passed, read-reference, read-other}
+use Rattle.scope.proofs.Outward.{outward-element}
+use Rattle.scope.proofs.Upwards.{up-top, up-ancestor, up-passed, up-of}
 use Rattle.scope.proofs.above.Statement.{statement}
 use Rattle.scope.proofs.above.Tie as tie
 
-word-requires : tie.Need-word-requires
-word-requires c κs = search needs
+ancestor-requires : tie.Need-ancestor-requires
+ancestor-requires c κs = search needs
 
 returns : tie.Need-returns
 returns c =
-    let s = c .before .before .before .before .before .before .before .before in
+    let s = c .before .before .before .before .before .before .before .before .before in
     let table = s .args .table .now in
     let pool = s .args .pool .now in
-    let x = s .args .row .0 in
-    let word = c .before .before .word in
-    read-top table pool (s .pre .0 .limit) x (s .pre .1 .0) (word .result) (word .ensures) (omega arith)
-
-word-requires-2 : tie.Need-word-requires-2
-word-requires-2 c κs = search needs
+    let e = s .args .element .0 in
+    let outer = c .before .before .before .ancestor in
+    up-top table pool (s .pre .0 .limit) e (s .pre .1 .0) (outer .result .0) (outer .ensures pool) (omega arith)
 
 wide-requires : tie.Need-wide-requires
 wide-requires c κs = search needs
-
-is-element-requires : tie.Need-is-element-requires
-is-element-requires c κs = search needs
 
 mul-wide : tie.Need-mul-wide
 mul-wide c = search needs
@@ -43,86 +38,44 @@ wide-requires-2 c κs = search needs
 
 returns-2 : tie.Need-returns-2
 returns-2 c =
-    let s = c .before .before .before .before .before .before .before .before .before .before .before .before .before .before .before in
-    let table = s .args .table .now in
-    let pool = s .args .pool .now in
-    let x = s .args .row .0 in
-    let word = c .before .before .before .before .before .before .before .before .before .word in
-    let kind = c .before .before .before .before .before .before .word2 in
-    let is = c .before .before .before .before .is-element in
-    read-parent table pool (s .pre .0 .limit) x (s .pre .1 .0) (word .result) (word .ensures) (omega arith) (kind .result) (kind .ensures) (sym (is .ensures) ∙ c .before .before .before .if2 .taken)
-
-mul-t13 : tie.Need-mul-t13
-mul-t13 c = search needs
-
-shared-slice-read-t16 : tie.Need-shared-slice-read-t16
-shared-slice-read-t16 c = search needs
-
-returns-3 : tie.Need-returns-3
-returns-3 c =
-    let s = c .before .before .before .before .before .before .before .before .before .before .before .before .before .before .before .before in
-    let table = s .args .table .now in
-    let pool = s .args .pool .now in
-    let x = s .args .row .0 in
-    let word = c .before .before .before .before .before .before .before .before .before .before .word in
-    let kind = c .before .before .before .before .before .before .before .word2 in
-    let is = c .before .before .before .before .before .is-element in
-    let p = c .before .before .before .before .before .before .wide in
-    let first = s .args .first .now in
-    let up = s .args .up .now in
-    let same : word .result ≡ p .result = sym (p .ensures) in
-    subst (Up (nodes table pool) x) (ap (λ (i : ℕ). getD up i 0) same)
-    (read-passed table pool (s .pre .0 .limit) x (s .pre .1 .0) (word .result) (word .ensures) (omega arith) (kind .result) (kind .ensures) first (s .args .next .now) (s .pre .0) (sym (is .ensures) ∙ c .before .before .before .before .if2 .taken) (omega (arith, ap (λ (i : ℕ). getD first i 0) same)) (getD up (word .result) 0) (s .pre .1 .1 .each (word .result) (omega arith)))
-
-mul-t21 : tie.Need-mul-t21
-mul-t21 c = search needs
-
-shared-slice-read-t23 : tie.Need-shared-slice-read-t23
-shared-slice-read-t23 c = search needs
-
-returns-4 : tie.Need-returns-4
-returns-4 c =
-    let s = c .before .before .before .before .before .before .before .before .before .before .before .before .before .before in
-    let table = s .args .table .now in
-    let pool = s .args .pool .now in
-    let x = s .args .row .0 in
-    let word = c .before .before .before .before .before .before .before .before .word in
-    let kind = c .before .before .before .before .before .word2 in
-    let is = c .before .before .before .is-element in
-    let p = c .before .before .before .before .wide in
-    let up = s .args .up .now in
-    let same : word .result ≡ p .result = sym (p .ensures) in
-    subst (Up (nodes table pool) x) (ap (λ (i : ℕ). getD up i 0) same)
-    (read-reference table pool (s .pre .0 .limit) x (s .pre .1 .0) (word .result) (word .ensures) (omega arith) (kind .result) (kind .ensures) (c .before .if4 .taken) (getD up (word .result) 0) (s .pre .1 .1 .each (word .result) (omega arith)))
-
-returns-5 : tie.Need-returns-5
-returns-5 c =
     let s = c .before .before .before .before .before .before .before .before .before .before .before .before .before in
     let table = s .args .table .now in
     let pool = s .args .pool .now in
-    let x = s .args .row .0 in
-    let word = c .before .before .before .before .before .before .before .word in
-    let kind = c .before .before .before .before .word2 in
-    let is = c .before .before .is-element in
-    read-other table pool (s .pre .0 .limit) x (s .pre .1 .0) (word .result) (word .ensures) (omega arith) (kind .result) (kind .ensures) (sym (is .ensures) ∙ c .before .if2 .left) (c .if4 .left)
+    let e = s .args .element .0 in
+    let outer = c .before .before .before .before .before .before .before .ancestor in
+    up-ancestor table pool (s .pre .0 .limit) e (s .pre .1 .0) (outer .result .0) (outer .ensures pool) (omega arith)
+
+mul-t10 : tie.Need-mul-t10
+mul-t10 c = search needs
+
+shared-slice-read-t13 : tie.Need-shared-slice-read-t13
+shared-slice-read-t13 c = search needs
+
+returns-3 : tie.Need-returns-3
+returns-3 c =
+    let s = c .before .before .before .before .before .before .before .before .before .before .before .before .before .before in
+    let table = s .args .table .now in
+    let pool = s .args .pool .now in
+    let e = s .args .element .0 in
+    let outer = c .before .before .before .before .before .before .before .before .ancestor in
+    let at = c .before .before .before .before .wide in
+    let up = s .args .up .now in
+    let ancestor = outward-element table pool (s .pre .0 .limit) e (s .pre .1 .0) (outer .result .0) (outer .ensures pool) (omega arith) in
+    subst (λ (i : ℕ). Up (nodes table pool) e (getD up i 0)) (sym (at .ensures))
+    (up-passed table pool (s .pre .0 .limit) e (s .pre .1 .0) (outer .result .0) (outer .ensures pool) (omega arith) (s .args .first .now) (s .args .next .now) (s .pre .0)
+    (omega (arith, ap (λ (i : ℕ). getD (s .args .first .now) i 0) (at .ensures))) (getD up (outer .result .0) 0) (up-of table pool up e (s .pre .1 .1) (outer .result .0) ancestor (omega arith)))
 
 pub above-spec : {M : Type 1} → statement M
 above-spec =
     tie.close
     (tie.spec
-    word-requires
+    ancestor-requires
     returns
-    word-requires-2
     wide-requires
-    is-element-requires
     mul-wide
     shared-slice-read-wide
     wide-requires-2
     returns-2
-    mul-t13
-    shared-slice-read-t16
-    returns-3
-    mul-t21
-    shared-slice-read-t23
-    returns-4
-    returns-5)
+    mul-t10
+    shared-slice-read-t13
+    returns-3)

@@ -10,38 +10,31 @@ use Rattle.scope.proofs.Answers.{empty-yes, empty-no, serves-default, s
 use Rattle.scope.proofs.serves.Statement.{statement}
 use Rattle.scope.proofs.serves.Tie as tie
 
-field-within-requires : tie.Need-field-within-requires
-field-within-requires c κs = search needs
-
-same-requires : tie.Need-same-requires
-same-requires c κs = search needs
+field-is-requires : tie.Need-field-is-requires
+field-is-requires c κs = search needs
 
 returns : tie.Need-returns
 returns c =
-    let s = c .before .before .before .before .before .before .before .before .before in
+    let s = c .before .before .before .before .before .before .before .before in
     let table = s .args .table .now in
     let pool = s .args .pool .now in
-    let start = s .args .start .0 in
-    let row = s .args .row .0 in
-    let scope = scopeAt (nodes table pool) start in
+    let scope = scopeAt (nodes table pool) (s .args .start .0) in
     let uri = s .args .uri .now in
-    let d = nodeAt table pool row in
-    serves-other scope uri d (sym (ap (λ v. sameBytes v uri) (c .before .before .field-within .ensures)) ∙ sym (c .before .same .ensures) ∙ not-true (c .before .same .result) (c .if1 .taken))
+    let d = nodeAt table pool (s .args .row .0) in
+    serves-other scope uri d (sym (c .before .field-is .ensures) ∙ not-true (c .before .field-is .result) (c .if1 .taken))
 
-field-within-requires-2 : tie.Need-field-within-requires-2
-field-within-requires-2 c κs = search needs
+field-within-requires : tie.Need-field-within-requires
+field-within-requires c κs = search needs
 
 returns-2 : tie.Need-returns-2
 returns-2 c =
-    let s = c .before .before .before .before .before .before .before .before .before .before .before in
+    let s = c .before .before .before .before .before .before .before .before .before .before in
     let table = s .args .table .now in
     let pool = s .args .pool .now in
-    let start = s .args .start .0 in
-    let row = s .args .row .0 in
-    let scope = scopeAt (nodes table pool) start in
+    let scope = scopeAt (nodes table pool) (s .args .start .0) in
     let uri = s .args .uri .now in
-    let d = nodeAt table pool row in
-    let prefix = c .before .field-within2 in
+    let d = nodeAt table pool (s .args .row .0) in
+    let prefix = c .before .field-within in
     serves-default scope uri d (ap isEmpty (sym (prefix .ensures)) ∙ empty-yes (prefix .result .now) (c .if2 .taken))
 
 is-in-scope-uri-requires : tie.Need-is-in-scope-uri-requires
@@ -49,27 +42,19 @@ is-in-scope-uri-requires c κs = search needs
 
 returns-3 : tie.Need-returns-3
 returns-3 c =
-    let s = c .before .before .before .before .before .before .before .before .before .before .before .before in
+    let s = c .before .before .before .before .before .before .before .before .before .before .before in
     let table = s .args .table .now in
     let pool = s .args .pool .now in
-    let start = s .args .start .0 in
-    let row = s .args .row .0 in
-    let scope = scopeAt (nodes table pool) start in
+    let scope = scopeAt (nodes table pool) (s .args .start .0) in
     let uri = s .args .uri .now in
-    let d = nodeAt table pool row in
-    let prefix = c .before .before .field-within2 in
+    let d = nodeAt table pool (s .args .row .0) in
+    let prefix = c .before .before .field-within in
+    let value = c .before .before .before .before .field-is in
     c .is-in-scope-uri .ensures ∙ ap (λ p. sameBytes (uriBytes (inScopeUri scope p)) uri) (prefix .ensures)
     ∙ serves-by scope uri d (ap isEmpty (sym (prefix .ensures)) ∙ empty-no (prefix .result .now) (c .before .if2 .left))
-    (sym (ap (λ v. sameBytes v uri) (c .before .before .before .before .before .field-within .ensures)) ∙ sym (c .before .before .before .before .same .ensures) ∙ not-false (c .before .before .before .before .same .result) (c .before .before .before .if1 .left))
+    (sym (value .ensures) ∙ not-false (value .result) (c .before .before .before .if1 .left))
 
 pub serves-spec : {M : Type 1} → statement M
 serves-spec =
     tie.close
-    (tie.spec
-    field-within-requires
-    same-requires
-    returns
-    field-within-requires-2
-    returns-2
-    is-in-scope-uri-requires
-    returns-3)
+    (tie.spec field-is-requires returns field-within-requires returns-2 is-in-scope-uri-requires returns-3)

@@ -1,9 +1,9 @@
--- `search::value` meets its contract.
+-- `search::filled_place` meets its contract.
 -- Assumes nothing.
 use borrow.Author.Needs.{needs}
-use Rattle.search.proofs.Steps.{value-empty, value-place}
-use Rattle.search.proofs.value.Statement.{statement}
-use Rattle.search.proofs.value.Tie as tie
+use Rattle.search.proofs.Steps.{field-empty, field-filled}
+use Rattle.search.proofs.filled_place.Statement.{statement}
+use Rattle.search.proofs.filled_place.Tie as tie
 
 field-requires : tie.Need-field-requires
 field-requires c κs = search needs
@@ -15,7 +15,7 @@ returns c =
     let pool = s .args .pool .now in
     let row = s .args .row .0 in
     let f = c .before .field in
-    value-empty table pool row (f .result .now) (f .ensures) (c .if1 .taken)
+    field-empty table pool row (s .args .k) (f .result .now) (f .ensures) (c .if1 .taken)
 
 place-requires : tie.Need-place-requires
 place-requires c κs = search needs
@@ -27,7 +27,7 @@ returns-2 c =
     let pool = s .args .pool .now in
     let row = s .args .row .0 in
     let f = c .before .before .field in
-    value-place table pool row (f .result .now) (f .ensures) (c .before .if1 .left) _ (c .place .ensures)
+    field-filled table pool row (s .args .k) (f .result .now) (f .ensures) (c .before .if1 .left) _ (c .place .ensures)
 
-pub value-spec : {M : Type 1} → statement M
-value-spec = tie.close (tie.spec field-requires returns place-requires returns-2)
+pub filled-place-spec : {M : Type 1} → statement M
+filled-place-spec = tie.close (tie.spec field-requires returns place-requires returns-2)
