@@ -133,6 +133,15 @@ def long_names(rows):
     return table
 
 
+def chain(rows):
+    """A chain of elements without names in a namespace below an element that declares four prefixes."""
+    table = Table()
+    element = start(table)
+    while len(table.rows) < rows:
+        element = table.add(1, element, local=table.place("part"))
+    return table
+
+
 def add_element(table, numbers, parent, k):
     return table.add(1, parent, table.place(PREFIXES[k]), table.place(WORDS[numbers.below(17)]), table.place(URIS[k]))
 
@@ -234,14 +243,26 @@ def numbered(rows):
     return fill(table, root, rows - (rows - 1) // 2)
 
 
+def references(rows):
+    """Entity references in each other, as many as half the rows; elements with prefixes under the innermost."""
+    table, numbers = Table(), Numbers(6)
+    parent = start(table)
+    while len(table.rows) < rows // 2:
+        parent = table.add(5, parent)
+    while len(table.rows) < rows:
+        add_element(table, numbers, parent, numbers.below(4))
+    return table
+
+
 CHECKED = (ordinary, apart, one_owner, texts, long_names)
-NORMALIZED = (typical, deep, wide, shadowed, shadowed_once, numbered)
+ASKED = (chain,)
+NORMALIZED = (typical, deep, wide, shadowed, shadowed_once, numbered, references)
 
 
 def main():
     if len(sys.argv) != 2:
         sys.exit(__doc__)
-    for make in CHECKED + NORMALIZED:
+    for make in CHECKED + ASKED + NORMALIZED:
         for rows in (250, 500, 1000):
             make(rows).write("%s/%s-%d" % (sys.argv[1], make.__name__, rows))
 

@@ -7,42 +7,22 @@ ghost use Rattle.rules.specs.Table.{part, xmlPrefix, xmlnsPrefix, xmlUri, xmlns
 ghost use Rattle.rules.specs.Refusals.{isBetween, isFirstByte, isNameByte, goodName};
 use rules::Offset;
 
-// The eight bytes from i on are equal in both: the compiler makes one comparison of them.
-fn same_eight(a: &[u8], b: &[u8], i: usize) -> bool
-    requires { ⌜ (i + 8 ≤ length (now a)) × (i + 8 ≤ length (now b)) ⌝ }
-    ensures { λ r. ⌜ r ≡ sameBytes (part (now (a .entry)) i 8) (part (now (b .entry)) i 8) ⌝ }
+// The two byte strings are equal, byte by byte. The last bytes first: most that share a length and a
+// stem differ there.
+pub fn same(a: &[u8], b: &[u8]) -> bool
+    ensures { λ r. ⌜ r ≡ sameBytes (now (a .entry)) (now (b .entry)) ⌝ }
 {
-    (a[i] == b[i])
-        & (a[i + 1] == b[i + 1])
-        & (a[i + 2] == b[i + 2])
-        & (a[i + 3] == b[i + 3])
-        & (a[i + 4] == b[i + 4])
-        & (a[i + 5] == b[i + 5])
-        & (a[i + 6] == b[i + 6])
-        & (a[i + 7] == b[i + 7])
-}
-
-// The four bytes from i on are equal in both.
-fn same_four(a: &[u8], b: &[u8], i: usize) -> bool
-    requires { ⌜ (i + 4 ≤ length (now a)) × (i + 4 ≤ length (now b)) ⌝ }
-    ensures { λ r. ⌜ r ≡ sameBytes (part (now (a .entry)) i 4) (part (now (b .entry)) i 4) ⌝ }
-{
-    (a[i] == b[i]) & (a[i + 1] == b[i + 1]) & (a[i + 2] == b[i + 2]) & (a[i + 3] == b[i + 3])
-}
-
-// The first bytes, a few, are equal in both.
-fn same_few(a: &[u8], b: &[u8], count: usize) -> bool
-    requires { ⌜ (count ≤ length (now a)) × (count ≤ length (now b)) ⌝ }
-    ensures { λ r. ⌜ r ≡ sameBytes (take count (now (a .entry))) (take count (now (b .entry))) ⌝ }
-{
-    let mut i = count;
-    while i > 0 {
-        i -= 1;
-        if a[i] != b[i] {
-            return false;
-        }
+    let n = a.len();
+    if n != b.len() {
+        return false;
     }
-    true
+    if n == 0 {
+        return true;
+    }
+    if a[n - 1] != b[n - 1] {
+        return false;
+    }
+    same_first(a, b, n - 1)
 }
 
 // The first bytes, so many, are equal in both: eights from the end, then a four, then the few that
@@ -67,22 +47,42 @@ fn same_first(a: &[u8], b: &[u8], count: usize) -> bool
     same_few(a, b, i - 4)
 }
 
-// The two byte strings are equal, byte by byte. The last bytes first: most that share a length and a
-// stem differ there.
-pub fn same(a: &[u8], b: &[u8]) -> bool
-    ensures { λ r. ⌜ r ≡ sameBytes (now (a .entry)) (now (b .entry)) ⌝ }
+// The first bytes, a few, are equal in both.
+fn same_few(a: &[u8], b: &[u8], count: usize) -> bool
+    requires { ⌜ (count ≤ length (now a)) × (count ≤ length (now b)) ⌝ }
+    ensures { λ r. ⌜ r ≡ sameBytes (take count (now (a .entry))) (take count (now (b .entry))) ⌝ }
 {
-    let n = a.len();
-    if n != b.len() {
-        return false;
+    let mut i = count;
+    while i > 0 {
+        i -= 1;
+        if a[i] != b[i] {
+            return false;
+        }
     }
-    if n == 0 {
-        return true;
-    }
-    if a[n - 1] != b[n - 1] {
-        return false;
-    }
-    same_first(a, b, n - 1)
+    true
+}
+
+// The eight bytes from i on are equal in both: the compiler makes one comparison of them.
+fn same_eight(a: &[u8], b: &[u8], i: usize) -> bool
+    requires { ⌜ (i + 8 ≤ length (now a)) × (i + 8 ≤ length (now b)) ⌝ }
+    ensures { λ r. ⌜ r ≡ sameBytes (part (now (a .entry)) i 8) (part (now (b .entry)) i 8) ⌝ }
+{
+    (a[i] == b[i])
+        & (a[i + 1] == b[i + 1])
+        & (a[i + 2] == b[i + 2])
+        & (a[i + 3] == b[i + 3])
+        & (a[i + 4] == b[i + 4])
+        & (a[i + 5] == b[i + 5])
+        & (a[i + 6] == b[i + 6])
+        & (a[i + 7] == b[i + 7])
+}
+
+// The four bytes from i on are equal in both.
+fn same_four(a: &[u8], b: &[u8], i: usize) -> bool
+    requires { ⌜ (i + 4 ≤ length (now a)) × (i + 4 ≤ length (now b)) ⌝ }
+    ensures { λ r. ⌜ r ≡ sameBytes (part (now (a .entry)) i 4) (part (now (b .entry)) i 4) ⌝ }
+{
+    (a[i] == b[i]) & (a[i + 1] == b[i + 1]) & (a[i + 2] == b[i + 2]) & (a[i + 3] == b[i + 3])
 }
 
 // The part of the pool that starts at an offset, as far as the pool goes.
@@ -112,30 +112,6 @@ pub fn is_part(pool: &[u8], offset: Offset, length: u32, name: &[u8]) -> bool
     same(part(pool, offset, length), name)
 }
 
-// A small letter, which most bytes of a name are.
-fn is_small_letter(b: u8) -> bool
-    ensures { λ r. ⌜ r ≡ isBetween 97 122 b ⌝ }
-{
-    (b >= 97) & (b <= 122)
-}
-
-// A letter, `_` or a byte from 128; with colons, `:` too.
-fn is_first_byte(b: u8, colons: bool) -> bool
-    ensures { λ r. ⌜ r ≡ isFirstByte colons b ⌝ }
-{
-    if is_small_letter(b) {
-        return true;
-    }
-    (b >= 65) & (b <= 90) | (b == 95) | (b >= 128) | colons & (b == 58)
-}
-
-// What may follow in a name: a first byte, a digit, `-` or `.`.
-fn is_name_byte(b: u8, colons: bool) -> bool
-    ensures { λ r. ⌜ r ≡ isNameByte colons b ⌝ }
-{
-    is_first_byte(b, colons) | ((b >= 48) & (b <= 57) | (b == 45) | (b == 46))
-}
-
 // The bytes make a good prefix or local name, or there are none.
 pub fn good_name(name: &[u8], colons: bool) -> bool
     ensures { λ r. ⌜ r ≡ goodName colons (now (name .entry)) ⌝ }
@@ -155,6 +131,30 @@ pub fn good_name(name: &[u8], colons: bool) -> bool
         i += 1;
     }
     true
+}
+
+// A letter, `_` or a byte from 128; with colons, `:` too.
+fn is_first_byte(b: u8, colons: bool) -> bool
+    ensures { λ r. ⌜ r ≡ isFirstByte colons b ⌝ }
+{
+    if is_small_letter(b) {
+        return true;
+    }
+    (b >= 65) & (b <= 90) | (b == 95) | (b >= 128) | colons & (b == 58)
+}
+
+// What may follow in a name: a first byte, a digit, `-` or `.`.
+fn is_name_byte(b: u8, colons: bool) -> bool
+    ensures { λ r. ⌜ r ≡ isNameByte colons b ⌝ }
+{
+    is_first_byte(b, colons) | ((b >= 48) & (b <= 57) | (b == 45) | (b == 46))
+}
+
+// A small letter, which most bytes of a name are.
+fn is_small_letter(b: u8) -> bool
+    ensures { λ r. ⌜ r ≡ isBetween 97 122 b ⌝ }
+{
+    (b >= 97) & (b <= 122)
 }
 
 // The prefix `xml`.
