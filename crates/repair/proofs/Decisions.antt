@@ -1,23 +1,25 @@
 -- What the code decides is what the definitions repair by: a law for each answer of each function.
 -- Assumes nothing.
-use Prim.Native.Nat.{ℕ, _<_, _≤_}
-use mathlib.Core.Path.{_≡_, refl, sym, _∙_, ap, subst}
-use mathlib.Core.Bool.{Bool, true, false, cond, _&&_, not}
-use mathlib.Core.List.{List, [], _∷_}
+use Prim.Native.Nat.{ℕ, _<_}
+use mathlib.Core.Path.{_≡_, refl, sym, _∙_, ap}
+use mathlib.Core.Bool.{Bool, true, false, _&&_, not}
+use mathlib.Core.List.{List, []}
 use native.Mathlib.Omega.{arith}
 use lib.ListN.{length}
 use Rattle.rules.specs.Lists.{isEmpty, sameBytes}
-use Rattle.rules.specs.Table.{xmlPrefix, xmlnsPrefix, Field, Node, nodes, node, nodeAt, fieldAt, rowCount}
+use Rattle.rules.specs.Table.{xmlPrefix, xmlnsPrefix, Field, Node, nodes, node, fieldAt, rowCount}
 use Rattle.rules.specs.Lookups.{scopeAt, Binding, declared, builtInXml, builtInXmlns, unbound, inScopeUri, uriBytes, inScopePrefix, place, bound}
-use Rattle.rules.specs.Normalization.{Repair, keep, takeDeclared, takeBuiltIn, declareOwn, makeNumbered, repairByDeclaring, repairBy, repairOf, repairElement, declare}
+use Rattle.rules.specs.Normalization.{takeDeclared, takeBuiltIn, repairByDeclaring, repairBy, repairOf, repairElement, declare}
 use Rattle.rules.specs.declared.Place.{Place}
 use Rattle.rules.specs.declared.Refusal.{Refusal}
 use Rattle.rules.specs.declared.InScope.{InScope}
-use Rattle.rules.proofs.Lists.{by-cases, sameBytes-refl, sameBytes-empty, true-not-false}
-use Rattle.rules.proofs.Table.{node-nodes, length-nodes}
+use Rattle.rules.proofs.Lists.{by-cases, sameBytes-refl, sameBytes-empty}
+use Rattle.rules.proofs.Table.{node-nodes}
+use Rattle.scope.specs.Ready.{placeAt}
 use Rattle.scope.proofs.Answers.{empty-yes, empty-no}
 use Rattle.repair.specs.declared.Decision.{Decision}
 use Rattle.repair.specs.Deciding.{settled, decision}
+use Rattle.repair.specs.Working.{fieldIn}
 
 -- The fields of a row, as the code reads them.
 module _ (table pool : List ℕ) (r : ℕ) (within : r < rowCount table) where
@@ -27,6 +29,18 @@ module _ (table pool : List ℕ) (r : ℕ) (within : r < rowCount table) where
   pub uri-field : fieldAt table pool r 6 ≡ node (nodes table pool) r .uri
   uri-field = ap (λ (n : Node). n .uri) (sym (node-nodes table pool r within))
 
+  pub prefix-bytes : {bytes : List ℕ} → bytes ≡ fieldAt table pool r 2 .bytes → bytes ≡ node (nodes table pool) r .prefix .bytes
+  prefix-bytes e = e ∙ ap (λ (f : Field). f .bytes) prefix-field
+
+  pub uri-bytes : {bytes : List ℕ} → bytes ≡ fieldAt table pool r 6 .bytes → bytes ≡ node (nodes table pool) r .uri .bytes
+  uri-bytes e = e ∙ ap (λ (f : Field). f .bytes) uri-field
+
+  pub prefix-at : {p : Place} → p ≡ placeAt table r 2 → fieldIn pool p ≡ node (nodes table pool) r .prefix
+  prefix-at e = ap (fieldIn pool) e ∙ prefix-field
+
+  pub uri-at : {p : Place} → p ≡ placeAt table r 6 → fieldIn pool p ≡ node (nodes table pool) r .uri
+  uri-at e = ap (fieldIn pool) e ∙ uri-field
+
 pub means-none : (prefix : List ℕ) (test : Bool) → length prefix ≡ 0 → false ≡ (not (isEmpty prefix) && test)
 means-none prefix test e = rw (empty-yes prefix e) refl
 
@@ -34,14 +48,14 @@ pub means-some : (prefix : List ℕ) (test : Bool) → (length prefix ≡ 0 → 
 means-some prefix test e = rw (empty-no prefix e) refl
 
 -- Steps 1 and 2.
-module _ (ns : List Node) (e : ℕ) (uri : List ℕ) (is-uri : uri ≡ node ns e .uri .bytes) where
+module _ (ns : List Node) (e : ℕ) {uri : List ℕ} (is-uri : uri ≡ node ns e .uri .bytes) where
   pub settled-none : length uri ≡ 0 → sameBytes (uriBytes (inScopeUri (scopeAt ns e) [])) [] ≡ settled ns e
   unfolding settled
   settled-none none? = rw (← is-uri, empty-yes uri none?) (sameBytes-empty (uriBytes (inScopeUri (scopeAt ns e) [])))
 
-  pub settled-some : (length uri ≡ 0 → ⊥) → (prefix : List ℕ) → prefix ≡ node ns e .prefix .bytes → sameBytes (uriBytes (inScopeUri (scopeAt ns e) prefix)) uri ≡ settled ns e
+  pub settled-some : (length uri ≡ 0 → ⊥) → {prefix : List ℕ} → prefix ≡ node ns e .prefix .bytes → sameBytes (uriBytes (inScopeUri (scopeAt ns e) prefix)) uri ≡ settled ns e
   unfolding settled
-  settled-some some? prefix is-prefix = rw (← is-uri, ← is-prefix, empty-no uri some?) refl
+  settled-some some? is-prefix = rw (← is-uri, ← is-prefix, empty-no uri some?) refl
 
   pub element-default : settled ns e ≡ false → length uri ≡ 0 → repairElement e ns ≡ declare e (record { offset = 0; size = 0; bytes = [] }) (record { offset = 0; size = 0; bytes = [] }) ns
   unfolding repairElement settled
@@ -79,7 +93,7 @@ xmlns-decision = refl
 
 -- Step 3.
 module _ (scope : List Node) (a : Node) where
-  abbrev free : Bool
+  abbrev pub free : Bool
   free = not (isEmpty (a .prefix .bytes)) && sameBytes (uriBytes (inScopeUri scope (a .prefix .bytes))) []
 
   same-free : free ≡ (not (isEmpty (a .prefix .bytes)) && isEmpty (uriBytes (inScopeUri scope (a .prefix .bytes))))
@@ -93,61 +107,65 @@ module _ (scope : List Node) (a : Node) where
   unfolding decision
   unbound-number no? = rw (sym same-free ∙ no?) refl
 
+  abbrev pub kept : Bool
+  kept = not (isEmpty (a .prefix .bytes)) && sameBytes (uriBytes (inScopeUri scope (a .prefix .bytes))) (a .uri .bytes)
+
   pub decide-none : isEmpty (a .uri .bytes) ≡ true → Decision.Keep ≡ decision (repairOf scope a)
   unfolding decision repairOf
   decide-none e = rw e refl
 
-  module _ (full : isEmpty (a .uri .bytes) ≡ false) where
-    abbrev kept : Bool
-    kept = not (isEmpty (a .prefix .bytes)) && sameBytes (uriBytes (inScopeUri scope (a .prefix .bytes))) (a .uri .bytes)
+  pub decide-keep : isEmpty (a .uri .bytes) ≡ false → kept ≡ true → Decision.Keep ≡ decision (repairOf scope a)
+  unfolding decision repairOf
+  decide-keep full yes? = rw (full, yes?) refl
 
-    pub decide-keep : kept ≡ true → Decision.Keep ≡ decision (repairOf scope a)
-    unfolding decision repairOf
-    decide-keep yes? = rw (full, yes?) refl
+-- What a lookup answers tells the binding.
+at-is : (b : Binding) {p : Place} → InScope.At p ≡ bound b → (f : Field) × (b ≡ declared f) × (p ≡ place f)
+at-is (declared f) e = (f, refl, cc)
+at-is builtInXml e = absurd (let y : _≡_ {A = ℕ} 0 1 = cc in omega arith)
+at-is builtInXmlns e = absurd (let y : _≡_ {A = ℕ} 0 1 = cc in omega arith)
+at-is unbound e = absurd (let y : _≡_ {A = ℕ} 0 1 = cc in omega arith)
 
-    module _ (other : kept ≡ false) where
-      by-binding : (b : Binding) → inScopePrefix scope (a .uri .bytes) ≡ b → decision (repairBy b (repairByDeclaring scope a)) ≡ decision (repairOf scope a)
-      unfolding repairOf
-      by-binding b e = rw (full, other, e) refl
+xml-is : (b : Binding) → InScope.Xml ≡ bound b → b ≡ builtInXml
+xml-is (declared f) e = cc
+xml-is builtInXml e = refl
+xml-is builtInXmlns e = cc
+xml-is unbound e = cc
 
-      -- what the lookup answered tells the binding
-      pub decide-take : (p : Place) → InScope.At p ≡ bound (inScopePrefix scope (a .uri .bytes)) → Decision.Take p ≡ decision (repairOf scope a)
-      decide-take p e = go (inScopePrefix scope (a .uri .bytes)) refl
-        where
-          go : (b : Binding) → inScopePrefix scope (a .uri .bytes) ≡ b → Decision.Take p ≡ decision (repairOf scope a)
-          go (declared f) q =
-              let same : p ≡ place f = let z : InScope.At p ≡ InScope.At (place f) = e ∙ ap bound q in cc in
-              ap Decision.Take same ∙ taken-decision f ∙ by-binding (declared f) q
-          go builtInXml q = let z : InScope.At p ≡ InScope.Xml = e ∙ ap bound q in cc
-          go builtInXmlns q = let z : InScope.At p ≡ InScope.Xmlns = e ∙ ap bound q in cc
-          go unbound q = let z : InScope.At p ≡ InScope.Nothing = e ∙ ap bound q in cc
+xmlns-is : (b : Binding) → InScope.Xmlns ≡ bound b → b ≡ builtInXmlns
+xmlns-is (declared f) e = cc
+xmlns-is builtInXml e = cc
+xmlns-is builtInXmlns e = refl
+xmlns-is unbound e = cc
 
-      pub decide-xml : InScope.Xml ≡ bound (inScopePrefix scope (a .uri .bytes)) → Decision.Xml ≡ decision (repairOf scope a)
-      decide-xml e = go (inScopePrefix scope (a .uri .bytes)) refl
-        where
-          go : (b : Binding) → inScopePrefix scope (a .uri .bytes) ≡ b → Decision.Xml ≡ decision (repairOf scope a)
-          go (declared f) q = let z : InScope.Xml ≡ InScope.At (place f) = e ∙ ap bound q in cc
-          go builtInXml q = xml-decision ∙ by-binding builtInXml q
-          go builtInXmlns q = let z : InScope.Xml ≡ InScope.Xmlns = e ∙ ap bound q in cc
-          go unbound q = let z : InScope.Xml ≡ InScope.Nothing = e ∙ ap bound q in cc
+nothing-is : (b : Binding) → InScope.Nothing ≡ bound b → b ≡ unbound
+nothing-is (declared f) e = cc
+nothing-is builtInXml e = cc
+nothing-is builtInXmlns e = cc
+nothing-is unbound e = refl
 
-      pub decide-xmlns : InScope.Xmlns ≡ bound (inScopePrefix scope (a .uri .bytes)) → Decision.Xmlns ≡ decision (repairOf scope a)
-      decide-xmlns e = go (inScopePrefix scope (a .uri .bytes)) refl
-        where
-          go : (b : Binding) → inScopePrefix scope (a .uri .bytes) ≡ b → Decision.Xmlns ≡ decision (repairOf scope a)
-          go (declared f) q = let z : InScope.Xmlns ≡ InScope.At (place f) = e ∙ ap bound q in cc
-          go builtInXml q = let z : InScope.Xmlns ≡ InScope.Xml = e ∙ ap bound q in cc
-          go builtInXmlns q = xmlns-decision ∙ by-binding builtInXmlns q
-          go unbound q = let z : InScope.Xmlns ≡ InScope.Nothing = e ∙ ap bound q in cc
+-- The attribute has a URI, and its prefix does not mean it.
+pub record Unkept (scope : List Node) (a : Node) : Type 0 where
+  pub full : isEmpty (a .uri .bytes) ≡ false
+  pub other : kept scope a ≡ false
 
-      pub decide-nothing : InScope.Nothing ≡ bound (inScopePrefix scope (a .uri .bytes)) → decision (repairByDeclaring scope a) ≡ decision (repairOf scope a)
-      decide-nothing e = go (inScopePrefix scope (a .uri .bytes)) refl
-        where
-          go : (b : Binding) → inScopePrefix scope (a .uri .bytes) ≡ b → decision (repairByDeclaring scope a) ≡ decision (repairOf scope a)
-          go (declared f) q = let z : InScope.Nothing ≡ InScope.At (place f) = e ∙ ap bound q in cc
-          go builtInXml q = let z : InScope.Nothing ≡ InScope.Xml = e ∙ ap bound q in cc
-          go builtInXmlns q = let z : InScope.Nothing ≡ InScope.Xmlns = e ∙ ap bound q in cc
-          go unbound q = by-binding unbound q
+module _ {scope : List Node} {a : Node} (u : Unkept scope a) where
+  by-binding : (b : Binding) → inScopePrefix scope (a .uri .bytes) ≡ b → decision (repairBy b (repairByDeclaring scope a)) ≡ decision (repairOf scope a)
+  unfolding repairOf
+  by-binding b e = rw (u .full, u .other, e) refl
+
+  pub decide-take : {p : Place} → InScope.At p ≡ bound (inScopePrefix scope (a .uri .bytes)) → Decision.Take p ≡ decision (repairOf scope a)
+  decide-take e =
+      let told = at-is _ e in
+      ap Decision.Take (told .2) ∙ taken-decision (told .0) ∙ by-binding _ (told .1)
+
+  pub decide-xml : InScope.Xml ≡ bound (inScopePrefix scope (a .uri .bytes)) → Decision.Xml ≡ decision (repairOf scope a)
+  decide-xml e = xml-decision ∙ by-binding _ (xml-is _ e)
+
+  pub decide-xmlns : InScope.Xmlns ≡ bound (inScopePrefix scope (a .uri .bytes)) → Decision.Xmlns ≡ decision (repairOf scope a)
+  decide-xmlns e = xmlns-decision ∙ by-binding _ (xmlns-is _ e)
+
+  pub decide-nothing : InScope.Nothing ≡ bound (inScopePrefix scope (a .uri .bytes)) → decision (repairByDeclaring scope a) ≡ decision (repairOf scope a)
+  decide-nothing e = by-binding _ (nothing-is _ e)
 
 -- A lookup of what is in scope is not refused.
 pub never-refused : (b : Binding) (x : Refusal) (p q : Decision) → InScope.Refused x ≡ bound b → p ≡ q

@@ -1,21 +1,20 @@
 -- What single writes do to the working buffers.
 -- Assumes nothing.
-use Prim.Native.Nat.{ℕ, zero, suc, _+_, _*_, _/_, _≤_, _<_}
+use Prim.Native.Nat.{ℕ, _+_, _*_, _≤_, _<_}
 use mathlib.Core.Path.{_≡_, refl, sym, _∙_, ap, subst}
-use mathlib.Core.Bool.{Bool, true, false, cond, _&&_}
-use mathlib.Core.List.{List, [], _∷_, _++_, map}
-use mathlib.Core.Option.{Option, none, some, Option·none-ne-some}
+use mathlib.Core.Bool.{true, false}
+use mathlib.Core.List.{List, [], _∷_, _++_}
+use mathlib.Core.Option.{none, some, Option·none-ne-some}
 use native.Mathlib.Omega.{arith}
 use lib.ListN.{length, getD, take, set, length-set, length-append, List·getD-append}
 use lib.Seq.{length-take-le, getD-take, getD-set-other}
-use lib.Dec.{eqb, ltb}
 use borrow.Author.Tests.{lt-ltb, le-ltb}
-use Rattle.rules.specs.Lists.{firstThat, filtered, anyOf, sameBytes}
-use Rattle.rules.specs.Table.{NONE, Field, Node, part, nodes, node, nodeAt, word, rowCount, isElement}
+use Rattle.rules.specs.Lists.{firstThat, anyOf}
+use Rattle.rules.specs.Table.{Field, Node, node, word, rowCount, isElement}
 use Rattle.rules.specs.Lookups.{isDeclarationOf, ownDeclarations, declares}
-use Rattle.rules.specs.Normalization.{newDeclaration, withValue, isOwnDeclaration, revalued, declare}
+use Rattle.rules.specs.Normalization.{newDeclaration, withValue, isOwnDeclaration, declare}
 use Rattle.rules.specs.declared.Place.{Place}
-use Rattle.rules.proofs.Lists.{by-cases, true-both, true-not-false, anyOf-filtered, filtered-passes, firstThat-passes, firstThat-none, none-firstThat, allOf-firstThat}
+use Rattle.rules.proofs.Lists.{by-cases, true-both, anyOf-filtered, filtered-passes, firstThat-passes, firstThat-none, none-firstThat, allOf-firstThat}
 use Rattle.rules.proofs.Unique.{Unique, revalued-is-set}
 use Rattle.index.specs.Links.{Linked, Index, owned}
 use Rattle.index.proofs.Appended.{linked-same, ended-same}
@@ -48,7 +47,7 @@ word-part : (t : List ℕ) (rows j k : ℕ) → j < rows → k < 10 → word (ta
 word-part t rows j k h i = getD-take (10 * rows) t (10 * j + k) 0 (omega arith)
 
 -- A row appended.
-module _ (t t′ first next last : List ℕ) (rows limit : ℕ) (b : Buffers t first next last rows limit) (room : rows < limit)
+module _ {t t′ first next last : List ℕ} {rows limit : ℕ} (b : Buffers t first next last rows limit) (room : rows < limit)
     (l : List ℕ) (ten : length l ≡ 10) (is : t′ ≡ written t (10 * rows) l) where
   fits : 10 * rows + length l ≤ length t
   fits = omega (arith, b .tableRoom)
@@ -69,8 +68,8 @@ module _ (t t′ first next last : List ℕ) (rows limit : ℕ) (b : Buffers t f
       ∙ List·getD-append (take (10 * rows) t) l 0 (10 * j + k) (rw (length-take-le (10 * rows) t (omega arith)) (omega arith))))
       first next last (b .index)
 
-  pub append-buffers : (first′ next′ last′ : List ℕ) → length first′ ≡ length first → length next′ ≡ length next → Index (owned (take (10 * (rows + 1)) t′) 13) (rows + 1) first′ next′ last′ → Buffers t′ first′ next′ last′ (rows + 1) limit
-  append-buffers first′ next′ last′ p q i =
+  pub append-buffers : {first′ next′ last′ : List ℕ} → length first′ ≡ length first → length next′ ≡ length next → Index (owned (take (10 * (rows + 1)) t′) 13) (rows + 1) first′ next′ last′ → Buffers t′ first′ next′ last′ (rows + 1) limit
+  append-buffers p q i =
       record {
         rowRoom = omega arith;
         limitSmall = b .limitSmall;
@@ -85,7 +84,7 @@ append-rows t t′ rows h owner prefix uri is pool =
     rw is (appended-row t pool rows h owner (fieldIn pool prefix) (fieldIn pool uri) refl refl)
 
 -- A field of a row set, other than its type and parent.
-module _ (t t′ first next last : List ℕ) (rows limit : ℕ) (b : Buffers t first next last rows limit) (r k v w : ℕ) (below : r < rows)
+module _ {t t′ first next last : List ℕ} {rows limit : ℕ} (b : Buffers t first next last rows limit) (r k v w : ℕ) (below : r < rows)
     (low : 2 ≤ k) (high : k + 1 < 10) (is : t′ ≡ set (set t (10 * r + k) v) (10 * r + k + 1) w) where
   set-length : length t′ ≡ length t
   set-length = ap length is ∙ simp length-set
@@ -111,30 +110,50 @@ module _ (t t′ first next last : List ℕ) (rows limit : ℕ) (b : Buffers t f
       }
 
 -- The buffers are what a search for declarations asks for.
-module _ (t pool first next last : List ℕ) (rows limit : ℕ) (b : Buffers t first next last rows limit) where
-  rows-fit : 10 * rows ≤ length t
+module _ {t first next last : List ℕ} {rows limit : ℕ} (b : Buffers t first next last rows limit) where
+  pub rows-fit : 10 * rows ≤ length t
   rows-fit = omega (arith, b .rowRoom, b .tableRoom)
 
-  pub counted : rowCount (take (10 * rows) t) ≡ rows
-  counted = rw (length-take-le (10 * rows) t rows-fit) (omega arith)
+  pub rows-part : 10 * rows ≡ length (take (10 * rows) t)
+  rows-part = count-part t (10 * rows) rows-fit
 
-  pub counted-rows : length (rowsOf t pool rows) ≡ rows
-  counted-rows = length-rows t pool rows rows-fit
+  pub rows-counted : rowCount (take (10 * rows) t) ≡ rows
+  rows-counted = rw (length-take-le (10 * rows) t rows-fit) (omega arith)
 
-  pub buffers-ready : Ready (take (10 * rows) t) first next
-  buffers-ready =
+  pub row-within : (r : ℕ) → r < rows → r < rowCount (take (10 * rows) t)
+  row-within r h = rw rows-counted h
+
+  pub rows-length : (pool : List ℕ) → length (rowsOf t pool rows) ≡ rows
+  rows-length pool = length-rows t pool rows rows-fit
+
+  pub few-rows : (pool : List ℕ) → length (rowsOf t pool rows) ≤ 1024
+  few-rows pool = rw (rows-length pool) (omega (arith, b .rowRoom, b .limitSmall))
+
+  pub rows-ready : Ready (take (10 * rows) t) first next
+  rows-ready =
       record {
-        linked = subst (λ (n : ℕ). Linked (owned (take (10 * rows) t) 13) n first next) (sym counted) (b .index .linked);
-        places = rw counted (omega (arith, b .rowRoom, b .limitSmall, b .firstRoom));
-        limit = rw counted (omega (arith, b .rowRoom, b .limitSmall));
+        linked = subst (λ (n : ℕ). Linked (owned (take (10 * rows) t) 13) n first next) (sym rows-counted) (b .index .linked);
+        places = rw rows-counted (omega (arith, b .rowRoom, b .limitSmall, b .firstRoom));
+        limit = rw rows-counted (omega (arith, b .rowRoom, b .limitSmall));
       }
 
-  pub buffers-element : (e : ℕ) → e < rows → isElement (node (rowsOf t pool rows) e .type) ≡ true → Element (take (10 * rows) t) e
-  buffers-element e h is =
+  pub rows-element : (pool : List ℕ) (e : ℕ) → e < rows → isElement (node (rowsOf t pool rows) e .type) ≡ true → Element (take (10 * rows) t) e
+  rows-element pool e h is =
       record {
-        within = rw counted h;
+        within = row-within e h;
         type = ap isElement (word-part t rows e 0 h (omega arith) ∙ sym (ap (λ (n : Node). n .type) (node-of-buffer t pool rows rows-fit e h))) ∙ is;
       }
+
+-- The same, with the buffers written out.
+module _ (t pool first next last : List ℕ) (rows limit : ℕ) (b : Buffers t first next last rows limit) where
+  pub counted : rowCount (take (10 * rows) t) ≡ rows
+  counted = rows-counted b
+
+  pub counted-rows : length (rowsOf t pool rows) ≡ rows
+  counted-rows = rows-length b pool
+
+  pub buffers-ready : Ready (take (10 * rows) t) first next
+  buffers-ready = rows-ready b
 
 -- The own declaration that a search found, or did not.
 module _ (ns : List Node) (e d : ℕ) (prefix : List ℕ) (sought : found ns d ≡ firstThat (declares prefix) (ownDeclarations ns e)) where
@@ -168,34 +187,38 @@ module _ (ns : List Node) (e d : ℕ) (prefix : List ℕ) (sought : found ns d �
       let none-own : anyOf (isOwnDeclaration e prefix) ns ≡ false = anyOf-filtered (declares prefix) (isDeclarationOf e) ns ∙ none-firstThat (declares prefix) (ownDeclarations ns e) none-there in
       rw (same, none-own) refl
 
+-- d is what a search for the own declaration of a prefix answers.
+pub record Sought (t pool first next last : List ℕ) (rows limit e d : ℕ) (prefix : Place) : Type 0 where
+  pub buffers : Buffers t first next last rows limit
+  pub sought : found (rowsOf t pool rows) d ≡ firstThat (declares (fieldIn pool prefix .bytes)) (ownDeclarations (rowsOf t pool rows) e)
+
 -- The three ways of `declare`.
-module _ (t pool first next last : List ℕ) (rows limit : ℕ) (b : Buffers t first next last rows limit) (e d : ℕ) (prefix uri : Place)
-    (name : List ℕ) (is-name : name ≡ part pool (prefix .offset .0) (prefix .length))
-    (sought : found (rowsOf t pool rows) d ≡ firstThat (declares name) (ownDeclarations (rowsOf t pool rows) e)) where
-  pub declared-set : (t′ : List ℕ) → d < rows → Unique (rowsOf t pool rows) → t′ ≡ set (set t (10 * d + 8) (uri .offset .0)) (10 * d + 8 + 1) (uri .length) → Stepped t′ pool first next last limit rows (declare e (fieldIn pool prefix) (fieldIn pool uri) (rowsOf t pool rows))
-  declared-set t′ below unique is =
+module _ {t pool first next last : List ℕ} {rows limit e d : ℕ} {prefix : Place} (g : Sought t pool first next last rows limit e d prefix) (uri : Place) where
+  pub declared-set : {t′ : List ℕ} → d < rows → Unique (rowsOf t pool rows) → t′ ≡ set (set t (10 * d + 8) (uri .offset .0)) (10 * d + 8 + 1) (uri .length) → Stepped t′ pool first next last limit rows (declare e (fieldIn pool prefix) (fieldIn pool uri) (rowsOf t pool rows))
+  declared-set below unique is =
+      let b = g .buffers in
       record {
         full = λ more. absurd (omega (arith, b .rowRoom));
-        buffers = λ fits. set-buffers t t′ first next last rows limit b d 8 (uri .offset .0) (uri .length) below (omega arith) (omega arith) is;
+        buffers = λ fits. set-buffers b d 8 _ _ below (omega arith) (omega arith) is;
         rows = λ fits.
             ap (λ (l : List ℕ). rowsOf l pool rows) is
-            ∙ set-value-rows t pool rows (rows-fit t pool first next last rows limit b) d below (fieldIn pool uri) refl
-            ∙ sym (declare-hit (rowsOf t pool rows) e d name sought (rw (counted-rows t pool first next last rows limit b) below) (fieldIn pool prefix) (fieldIn pool uri) (sym is-name) unique);
+            ∙ set-value-rows t pool rows (rows-fit b) d below (fieldIn pool uri) refl
+            ∙ sym (declare-hit (rowsOf t pool rows) e d _ (g .sought) (rw (rows-length b pool) below) (fieldIn pool prefix) (fieldIn pool uri) refl unique);
       }
 
   missed : rows ≤ d → declare e (fieldIn pool prefix) (fieldIn pool uri) (rowsOf t pool rows) ≡ rowsOf t pool rows ++ newDeclaration e (fieldIn pool prefix) (fieldIn pool uri) ∷ []
-  missed past = declare-missed (rowsOf t pool rows) e d name sought (rw (counted-rows t pool first next last rows limit b) past) (fieldIn pool prefix) (fieldIn pool uri) (sym is-name)
+  missed past = declare-missed (rowsOf t pool rows) e d _ (g .sought) (rw (rows-length (g .buffers) pool) past) (fieldIn pool prefix) (fieldIn pool uri) refl
 
   pub declared-full : rows ≤ d → limit ≤ rows → Stepped t pool first next last limit (limit + 1) (declare e (fieldIn pool prefix) (fieldIn pool uri) (rowsOf t pool rows))
   declared-full past room =
       record {
-        full = λ more. rw (missed past, length-append, counted-rows t pool first next last rows limit b) (omega arith);
+        full = λ more. rw (missed past, length-append, rows-length (g .buffers) pool) (omega arith);
         buffers = λ fits. absurd (omega arith);
         rows = λ fits. absurd (omega arith);
       }
 
-  pub declared-appended : (t′ first′ next′ last′ : List ℕ) → rows ≤ d → rows < limit → Buffers t′ first′ next′ last′ (rows + 1) limit → rowsOf t′ pool (rows + 1) ≡ rowsOf t pool rows ++ newDeclaration e (fieldIn pool prefix) (fieldIn pool uri) ∷ [] → Stepped t′ pool first′ next′ last′ limit (rows + 1) (declare e (fieldIn pool prefix) (fieldIn pool uri) (rowsOf t pool rows))
-  declared-appended t′ first′ next′ last′ past room b′ made =
+  pub declared-appended : {t′ first′ next′ last′ : List ℕ} → rows ≤ d → rows < limit → Buffers t′ first′ next′ last′ (rows + 1) limit → rowsOf t′ pool (rows + 1) ≡ rowsOf t pool rows ++ newDeclaration e (fieldIn pool prefix) (fieldIn pool uri) ∷ [] → Stepped t′ pool first′ next′ last′ limit (rows + 1) (declare e (fieldIn pool prefix) (fieldIn pool uri) (rowsOf t pool rows))
+  declared-appended past room b′ made =
       record {
         full = λ more. absurd (omega arith);
         buffers = λ fits. b′;
@@ -203,6 +226,9 @@ module _ (t pool first next last : List ℕ) (rows limit : ℕ) (b : Buffers t f
       }
 
 -- Nothing to do, and the same rows under another name.
-pub stepped-same : (t pool first next last : List ℕ) (rows limit : ℕ) → Buffers t first next last rows limit → (made : List Node) → rowsOf t pool rows ≡ made → Stepped t pool first next last limit rows made
-stepped-same t pool first next last rows limit b made e =
+pub stepped-same : {t first next last : List ℕ} {rows limit : ℕ} → Buffers t first next last rows limit → (pool : List ℕ) {made : List Node} → rowsOf t pool rows ≡ made → Stepped t pool first next last limit rows made
+stepped-same b pool e =
     record { full = λ more. absurd (omega (arith, b .rowRoom)); buffers = λ fits. b; rows = λ fits. e }
+
+pub stepped-as : {t pool first next last : List ℕ} {limit count : ℕ} {made meant : List Node} → made ≡ meant → Stepped t pool first next last limit count made → Stepped t pool first next last limit count meant
+stepped-as {t} {pool} {first} {next} {last} {limit} {count} e h = subst (Stepped t pool first next last limit count) e h

@@ -3,7 +3,6 @@
 use mathlib.Core.Path.{refl}
 use native.Mathlib.Omega.{arith}
 use borrow.Author.Needs.{needs}
-use Rattle.buffers.specs.Writes.{declarationWords}
 use Rattle.repair.proofs.Steps.{count-part, append-part, append-index, append-buffers, append-rows, append-taken}
 use Rattle.repair.proofs.append.Statement.{statement}
 use Rattle.repair.proofs.append.Tie as tie
@@ -22,16 +21,18 @@ slice-reshare-prefix-extend c = search needs
 
 slice-aggregate-extend : tie.Need-slice-aggregate-extend
 slice-aggregate-extend c =
-    let s = c .before .before .before .before .before .before .before .before .before in
-    count-part _ _ (append-part (s .args .table .now) (c .before .before .before .append-row .last .0) (s .args .first .now) (s .args .next .now) (s .args .last .now) (s .args .rows) (s .args .limit) (s .pre .0) (s .pre .1) _ refl (c .before .before .before .append-row .ensures))
+    let row = c .before .before .before in
+    let s = row .before .before .before .before .before .before in
+    count-part _ _ (append-part (s .pre .0) (s .pre .1) _ refl (row .append-row .ensures))
 
 cast-t23 : tie.Need-cast-t23
 cast-t23 c = search needs
 
 extend-requires : tie.Need-extend-requires
 extend-requires c κs =
-    let s = c .before .before .before .before .before .before .before .before .before .before .before .before in
-    (append-index (s .args .table .now) (c .before .before .before .before .before .before .append-row .last .0) (s .args .first .now) (s .args .next .now) (s .args .last .now) (s .args .rows) (s .args .limit) (s .pre .0) (s .pre .1) _ refl (c .before .before .before .before .before .before .append-row .ensures), omega (arith, s .pre .0 .nextRoom, s .pre .0 .limitSmall))
+    let row = c .before .before .before .before .before .before in
+    let s = row .before .before .before .before .before .before in
+    (append-index (s .pre .0) (s .pre .1) _ refl (row .append-row .ensures), omega (arith, s .pre .0 .nextRoom, s .pre .0 .limitSmall))
 
 same-length : tie.Need-same-length
 same-length c = search needs
@@ -47,14 +48,14 @@ same-length-4 c = search needs
 
 returns : tie.Need-returns
 returns c =
-    let s = c .before .before .before .before .before .before .before .before .before .before .before .before .before .before .before .before .before .before .before in
-    let row = c .before .before .before .before .before .before .before .before .before .before .before .before .before .append-row in
     let linked = c .before .before .before .before .before .before .extend in
-    let words = declarationWords (s .args .element .0) (s .args .prefix .offset .0) (s .args .prefix .length) (s .args .uri .offset .0) (s .args .uri .length) in (
-      append-buffers (s .args .table .now) (row .last .0) (s .args .first .now) (s .args .next .now) (s .args .last .now) (s .args .rows) (s .args .limit) (s .pre .0) (s .pre .1) words refl (row .ensures) _ _ _ (linked .kept .1 .1 .0) (linked .kept .1 .1 .1 .0) (linked .ensures),
+    let row = c .before .before .before .before .before .before .before .before .before .before .before .before .before in
+    let s = row .before .before .before .before .before .before in
+    let is = row .append-row .ensures in (
+      append-buffers (s .pre .0) (s .pre .1) _ refl is (linked .kept .1 .1 .0) (linked .kept .1 .1 .1 .0) (linked .ensures),
       (
-        append-rows (s .args .table .now) (row .last .0) (s .args .rows) (omega (arith, s .pre .0 .tableRoom)) (s .args .element .0) (s .args .prefix) (s .args .uri) (row .ensures),
-        append-taken (s .args .table .now) (row .last .0) (s .args .first .now) (s .args .next .now) (s .args .last .now) (s .args .rows) (s .args .limit) (s .pre .0) (s .pre .1) words refl (row .ensures),
+        append-rows (s .args .table .now) (row .append-row .last .0) (s .args .rows) (omega (arith, s .pre .0 .tableRoom)) (s .args .element .0) (s .args .prefix) (s .args .uri) is,
+        append-taken (s .pre .0) (s .pre .1) _ refl is,
       ),
     )
 

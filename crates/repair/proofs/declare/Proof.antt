@@ -1,11 +1,29 @@
 -- `repair::declare` meets its contract.
 -- Assumes nothing.
-use Prim.Native.Nat.{_*_}
+use Prim.Native.Nat.{ℕ}
+use mathlib.Core.Path.{_∙_, ap}
+use mathlib.Core.List.{List}
 use native.Mathlib.Omega.{arith}
 use borrow.Author.Needs.{needs}
-use Rattle.repair.proofs.Steps.{count-part, buffers-ready, buffers-element, declared-set, declared-full, declared-appended}
+use Rattle.rules.specs.Lists.{firstThat}
+use Rattle.rules.specs.Lookups.{ownDeclarations, declares}
+use Rattle.repair.specs.Working.{rowsOf}
+use Rattle.repair.proofs.Steps.{rows-part, rows-ready, rows-element, Sought, declared-set, declared-full, declared-appended}
 use Rattle.repair.proofs.declare.Statement.{statement}
 use Rattle.repair.proofs.declare.Tie as tie
+
+abbrev start : tie.After-own-declaration → tie.Start
+start c = c .before .before .before .before .before .before .before .before .before .before .before
+
+-- The search was for the prefix of the declaration.
+sought : (c : tie.After-own-declaration) → let s = start c in Sought (s .args .table .now) (s .args .pool .now) (s .args .first .now) (s .args .next .now) (s .args .last .now) (s .args .rows) (s .args .limit) (s .args .element .0) (c .own-declaration .result .0) (s .args .prefix)
+sought c =
+    let s = start c in
+    let ns = rowsOf (s .args .table .now) (s .args .pool .now) (s .args .rows) in
+    record {
+      buffers = s .pre .0;
+      sought = c .own-declaration .ensures ∙ ap (λ (name : List ℕ). firstThat (declares name) (ownDeclarations ns (s .args .element .0))) (c .before .before .before .before .part .ensures);
+    }
 
 part-requires : tie.Need-part-requires
 part-requires c κs = search needs
@@ -17,23 +35,12 @@ slice-reshare-prefix-own-declaration : tie.Need-slice-reshare-prefix-own-declara
 slice-reshare-prefix-own-declaration c = search needs
 
 slice-aggregate-own-declaration : tie.Need-slice-aggregate-own-declaration
-slice-aggregate-own-declaration c =
-    let s = c .before .before .before .before .before .before .before .before in
-    let t = s .args .table .now in
-    let rows = s .args .rows in
-    count-part t (10 * rows) (omega (arith, s .pre .0 .tableRoom, s .pre .0 .rowRoom))
+slice-aggregate-own-declaration c = rows-part (c .before .before .before .before .before .before .before .before .pre .0)
 
 own-declaration-requires : tie.Need-own-declaration-requires
 own-declaration-requires c κs =
     let s = c .before .before .before .before .before .before .before .before .before .before in
-    let t = s .args .table .now in
-    let pool = s .args .pool .now in
-    let first = s .args .first .now in
-    let next = s .args .next .now in
-    let last = s .args .last .now in
-    let rows = s .args .rows in
-    let limit = s .args .limit in
-    (buffers-ready t pool first next last rows limit (s .pre .0), buffers-element t pool first next last rows limit (s .pre .0) (s .args .element .0) (s .pre .1 .0 .0) (s .pre .1 .0 .1))
+    (rows-ready (s .pre .0), rows-element (s .pre .0) (s .args .pool .now) (s .args .element .0) (s .pre .1 .0 .0) (s .pre .1 .0 .1))
 
 wide-requires : tie.Need-wide-requires
 wide-requires c κs = search needs
@@ -52,17 +59,9 @@ same-length-3 c = search needs
 
 returns : tie.Need-returns
 returns c =
-    let s = c .before .before .before .before .before .before .before .before .before .before .before .before .before .before .before .before .before in
-    let t = s .args .table .now in
-    let pool = s .args .pool .now in
-    let first = s .args .first .now in
-    let next = s .args .next .now in
-    let last = s .args .last .now in
-    let rows = s .args .rows in
-    let own = c .before .before .before .before .before .before .own-declaration in
-    let name = c .before .before .before .before .before .before .before .before .before .before .part in
-    let set = c .before .before .set-place in
-    declared-set t pool first next last rows (s .args .limit) (s .pre .0) (s .args .element .0) (own .result .0) (s .args .prefix) (s .args .uri) _ (name .ensures) (own .ensures) (set .last .0) (omega arith) (s .pre .1 .1) (set .ensures)
+    let own = c .before .before .before .before .before .before in
+    let s = start own in
+    declared-set (sought own) (s .args .uri) (omega arith) (s .pre .1 .1) (c .before .before .set-place .ensures)
 
 add-result : tie.Need-add-result
 add-result c = search needs
@@ -78,16 +77,8 @@ same-length-6 c = search needs
 
 returns-2 : tie.Need-returns-2
 returns-2 c =
-    let s = c .before .before .before .before .before .before .before .before .before .before .before .before .before .before in
-    let t = s .args .table .now in
-    let pool = s .args .pool .now in
-    let first = s .args .first .now in
-    let next = s .args .next .now in
-    let last = s .args .last .now in
-    let rows = s .args .rows in
-    let own = c .before .before .before .own-declaration in
-    let name = c .before .before .before .before .before .before .before .part in
-    declared-full t pool first next last rows (s .args .limit) (s .pre .0) (s .args .element .0) (own .result .0) (s .args .prefix) (s .args .uri) _ (name .ensures) (own .ensures) (omega arith) (omega arith)
+    let own = c .before .before .before in
+    declared-full (sought own) (start own .args .uri) (omega arith) (omega arith)
 
 append-requires : tie.Need-append-requires
 append-requires c κs = search needs
@@ -109,17 +100,11 @@ same-length-10 c = search needs
 
 returns-3 : tie.Need-returns-3
 returns-3 c =
-    let s = c .before .before .before .before .before .before .before .before .before .before .before .before .before .before .before .before .before .before .before .before .before .before .before .before .before .before .before in
-    let t = s .args .table .now in
-    let pool = s .args .pool .now in
-    let first = s .args .first .now in
-    let next = s .args .next .now in
-    let last = s .args .last .now in
-    let rows = s .args .rows in
-    let own = c .before .before .before .before .before .before .before .before .before .before .before .before .before .before .before .before .own-declaration in
-    let name = c .before .before .before .before .before .before .before .before .before .before .before .before .before .before .before .before .before .before .before .before .part in
     let made = c .before .before .before .before .before .before .before .before .append in
-    declared-appended t pool first next last rows (s .args .limit) (s .pre .0) (s .args .element .0) (own .result .0) (s .args .prefix) (s .args .uri) _ (name .ensures) (own .ensures) _ _ _ _ (omega (arith, c .before .before .before .before .before .before .before .before .before .before .before .before .before .before .if1 .left, c .before .before .before .before .before .before .before .before .before .before .before .before .before .before .before .wide .ensures)) (c .before .before .before .before .before .before .before .before .before .before .before .before .before .if2 .left) (made .ensures .0) (made .ensures .1 .0 pool)
+    let room = c .before .before .before .before .before .before .before .before .before .before .before .before .before in
+    let own = room .before .before .before in
+    let s = start own in
+    declared-appended (sought own) (s .args .uri) (omega (arith, room .before .if1 .left, room .before .before .wide .ensures)) (room .if2 .left) (made .ensures .0) (made .ensures .1 .0 (s .args .pool .now))
 
 pub declare-spec : {M : Type 1} → statement M
 declare-spec =

@@ -1,14 +1,25 @@
 -- `repair::repair_attribute` meets its contract, by the decision.
 -- Assumes nothing.
-use Prim.Native.Nat.{_*_, _≤_}
-use mathlib.Core.List.{[], _∷_}
 use native.Mathlib.Omega.{arith}
-use lib.ListN.{length, take}
+use lib.ListN.{take}
 use borrow.Author.Needs.{needs}
-use Rattle.repair.proofs.Steps.{count-part, counted-rows, buffers-ready, buffers-element}
-use Rattle.repair.proofs.Made.{attribute-kept, attribute-taken, attribute-xml, attribute-xmlns, attribute-declared, attribute-numbered, xml-bytes, xmlns-bytes}
+use Rattle.repair.proofs.Steps.{count-part, rows-part, rows-length, rows-ready, rows-element}
+use Rattle.repair.proofs.Made.{Target, Decided, attribute-kept, attribute-taken, attribute-xml, attribute-xmlns, attribute-declared, attribute-numbered, xml-bytes, xmlns-bytes}
 use Rattle.repair.proofs.repair_attribute.Statement.{statement}
 use Rattle.repair.proofs.repair_attribute.Tie as tie
+
+-- The attribute's row takes a prefix.
+target : (s : tie.Start) → Target (s .args .table .now) (s .args .pool .now) (s .args .first .now) (s .args .next .now) (s .args .last .now) (s .args .sizes .rows) (s .args .sizes .bytes) (s .args .limit) (s .args .attribute .0)
+target s = record { buffers = s .pre .0; held = omega (arith, s .pre .1 .0 .0); below = s .pre .1 .1 .0 .0 }
+
+abbrev start : tie.After-decide → tie.Start
+start c = c .before .before .before .before .before .before .before .before .before .before .before
+
+-- The decision is that of step 3.
+decided : (c : tie.After-decide) → let s = start c in Decided (s .args .table .now) (s .args .pool .now) (s .args .first .now) (s .args .next .now) (s .args .last .now) (s .args .sizes .rows) (s .args .sizes .bytes) (s .args .limit) (s .args .element .0) (s .args .attribute .0) (c .decide .result)
+decided c =
+    let s = start c in
+    record { target = target s; owned = s .pre .1 .1 .1 .0 .1; decided = c .decide .ensures }
 
 mul-decide : tie.Need-mul-decide
 mul-decide c = search needs
@@ -17,44 +28,20 @@ slice-reshare-prefix-decide : tie.Need-slice-reshare-prefix-decide
 slice-reshare-prefix-decide c = search needs
 
 slice-aggregate-decide : tie.Need-slice-aggregate-decide
-slice-aggregate-decide c =
-    let s = c .before .before .before .before .before .before .before in
-    let t = s .args .table .now in
-    let p = s .args .pool .now in
-    let rows = s .args .sizes .rows in
-    let bytes = s .args .sizes .bytes in
-    let b = s .pre .0 in
-    let held : bytes ≤ length p = omega (arith, s .pre .1 .0 .0) in
-    count-part t (10 * rows) (omega (arith, b .tableRoom, b .rowRoom))
+slice-aggregate-decide c = rows-part (c .before .before .before .before .before .before .before .pre .0)
 
 slice-reshare-prefix-decide-2 : tie.Need-slice-reshare-prefix-decide-2
 slice-reshare-prefix-decide-2 c = search needs
 
 slice-aggregate-decide-2 : tie.Need-slice-aggregate-decide-2
-slice-aggregate-decide-2 c =
-    let s = c .before .before .before .before .before .before .before .before in
-    let p = s .args .pool .now in
-    let bytes = s .args .sizes .bytes in
-    let b = s .pre .0 in
-    let held : bytes ≤ length p = omega (arith, s .pre .1 .0 .0) in
-    count-part p bytes held
+slice-aggregate-decide-2 c = count-part _ _ (target (c .before .before .before .before .before .before .before .before) .held)
 
 decide-requires : tie.Need-decide-requires
 decide-requires c κs =
     let s = c .before .before .before .before .before .before .before .before .before .before in
-    let t = s .args .table .now in
-    let p = s .args .pool .now in
-    let first = s .args .first .now in
-    let next = s .args .next .now in
-    let last = s .args .last .now in
-    let rows = s .args .sizes .rows in
-    let bytes = s .args .sizes .bytes in
-    let limit = s .args .limit in
-    let e = s .args .element .0 in
     let b = s .pre .0 in
-    let held : bytes ≤ length p = omega (arith, s .pre .1 .0 .0) in
-    let pool = take bytes p in
-    (buffers-ready t pool first next last rows limit b, (buffers-element t pool first next last rows limit b e (s .pre .1 .1 .0 .1) (s .pre .1 .1 .1 .0 .0), (s .pre .1 .1 .1 .1, rw (counted-rows t pool first next last rows limit b) (s .pre .1 .1 .0 .0))))
+    let pool = take (s .args .sizes .bytes) (s .args .pool .now) in
+    (rows-ready b, (rows-element b pool (s .args .element .0) (s .pre .1 .1 .0 .1) (s .pre .1 .1 .1 .0 .0), (s .pre .1 .1 .1 .1, rw (rows-length b pool) (s .pre .1 .1 .0 .0))))
 
 enum-told : tie.Need-enum-told
 enum-told c = search needs
@@ -95,10 +82,6 @@ enum-told-5 c = search needs
 number-requires : tie.Need-number-requires
 number-requires c κs =
     let s = c .before .before .before .before .before .before .before .before .before .before .before .before .before .before .before .before .before .before in
-    let p = s .args .pool .now in
-    let bytes = s .args .sizes .bytes in
-    let b = s .pre .0 in
-    let held : bytes ≤ length p = omega (arith, s .pre .1 .0 .0) in
     (s .pre .0, (s .pre .1 .0, (s .pre .1 .1 .0, (s .pre .1 .1 .1 .0 .0, s .pre .1 .1 .1 .1))))
 
 same-length : tie.Need-same-length
@@ -114,21 +97,7 @@ same-length-4 : tie.Need-same-length-4
 same-length-4 c = search needs
 
 returns : tie.Need-returns
-returns c =
-    let s = c .before .before .before .before .before .before .before .before .before .before .before .before .before in
-    let t = s .args .table .now in
-    let p = s .args .pool .now in
-    let first = s .args .first .now in
-    let next = s .args .next .now in
-    let last = s .args .last .now in
-    let rows = s .args .sizes .rows in
-    let bytes = s .args .sizes .bytes in
-    let limit = s .args .limit in
-    let e = s .args .element .0 in
-    let a = s .args .attribute .0 in
-    let b = s .pre .0 in
-    let held : bytes ≤ length p = omega (arith, s .pre .1 .0 .0) in
-    attribute-kept t p first next last rows bytes limit b held e a (s .pre .1 .1 .0 .0) (s .pre .1 .1 .1 .0 .1) (c .before .before .decide .result) (c .before .before .decide .ensures) (c .enum-told .given .1)
+returns c = attribute-kept (decided (c .before .before)) (c .enum-told .given .1)
 
 same-length-5 : tie.Need-same-length-5
 same-length-5 c = search needs
@@ -144,21 +113,8 @@ same-length-8 c = search needs
 
 returns-2 : tie.Need-returns-2
 returns-2 c =
-    let s = c .before .before .before .before .before .before .before .before .before .before .before .before .before .before .before .before .before .before in
-    let t = s .args .table .now in
-    let p = s .args .pool .now in
-    let first = s .args .first .now in
-    let next = s .args .next .now in
-    let last = s .args .last .now in
-    let rows = s .args .sizes .rows in
-    let bytes = s .args .sizes .bytes in
-    let limit = s .args .limit in
-    let e = s .args .element .0 in
-    let a = s .args .attribute .0 in
-    let b = s .pre .0 in
-    let held : bytes ≤ length p = omega (arith, s .pre .1 .0 .0) in
-    let set = c .before .before .set-place in
-    attribute-taken t p first next last rows bytes limit b held e a (s .pre .1 .1 .0 .0) (s .pre .1 .1 .1 .0 .1) (c .before .before .before .before .before .before .before .decide .result) (c .before .before .before .before .before .before .before .decide .ensures) _ (set .last .0) (c .before .before .before .before .before .decision .given .1) (set .ensures)
+    let told = c .before .before .before .before .before in
+    attribute-taken (decided (told .before .before)) (told .decision .given .1) (c .before .before .set-place .ensures)
 
 same-length-9 : tie.Need-same-length-9
 same-length-9 c = search needs
@@ -174,21 +130,11 @@ same-length-12 c = search needs
 
 returns-3 : tie.Need-returns-3
 returns-3 c =
-    let s = c .before .before .before .before .before .before .before .before .before .before .before .before .before .before .before .before .before .before .before .before .before in
-    let t = s .args .table .now in
-    let p = s .args .pool .now in
-    let first = s .args .first .now in
-    let next = s .args .next .now in
-    let last = s .args .last .now in
-    let rows = s .args .sizes .rows in
-    let bytes = s .args .sizes .bytes in
-    let limit = s .args .limit in
-    let e = s .args .element .0 in
-    let a = s .args .attribute .0 in
-    let b = s .pre .0 in
-    let held : bytes ≤ length p = omega (arith, s .pre .1 .0 .0) in
-    let new = c .before .before .before .before .take-new in
-    attribute-xml t p first next last rows bytes limit b held e a (s .pre .1 .1 .0 .0) (s .pre .1 .1 .1 .0 .1) (c .before .before .before .before .before .before .before .before .before .before .decide .result) (c .before .before .before .before .before .before .before .before .before .before .decide .ensures) (new .last .0) (new .last .1 .0) (120 ∷ 109 ∷ 108 ∷ []) (c .before .before .before .before .before .before .before .before .enum-told2 .given .1) xml-bytes (omega (arith, s .pre .1 .0 .0)) (new .ensures .0) (new .ensures .1 .0) (new .result) (new .ensures .1 .1)
+    let grown = c .before .before .before .before in
+    let told = grown .before .before .before .before in
+    let asked = told .before .before in
+    let new = grown .take-new in
+    attribute-xml (decided asked) (told .enum-told2 .given .1) xml-bytes (omega (arith, start asked .pre .1 .0 .0)) (new .ensures .0) (new .ensures .1 .0) (new .result) (new .ensures .1 .1)
 
 same-length-13 : tie.Need-same-length-13
 same-length-13 c = search needs
@@ -204,21 +150,11 @@ same-length-16 c = search needs
 
 returns-4 : tie.Need-returns-4
 returns-4 c =
-    let s = c .before .before .before .before .before .before .before .before .before .before .before .before .before .before .before .before .before .before .before .before .before in
-    let t = s .args .table .now in
-    let p = s .args .pool .now in
-    let first = s .args .first .now in
-    let next = s .args .next .now in
-    let last = s .args .last .now in
-    let rows = s .args .sizes .rows in
-    let bytes = s .args .sizes .bytes in
-    let limit = s .args .limit in
-    let e = s .args .element .0 in
-    let a = s .args .attribute .0 in
-    let b = s .pre .0 in
-    let held : bytes ≤ length p = omega (arith, s .pre .1 .0 .0) in
-    let new = c .before .before .before .before .take-new2 in
-    attribute-xmlns t p first next last rows bytes limit b held e a (s .pre .1 .1 .0 .0) (s .pre .1 .1 .1 .0 .1) (c .before .before .before .before .before .before .before .before .before .before .decide .result) (c .before .before .before .before .before .before .before .before .before .before .decide .ensures) (new .last .0) (new .last .1 .0) (120 ∷ 109 ∷ 108 ∷ 110 ∷ 115 ∷ []) (c .before .before .before .before .before .before .before .before .enum-told3 .given .1) xmlns-bytes (omega (arith, s .pre .1 .0 .0)) (new .ensures .0) (new .ensures .1 .0) (new .result) (new .ensures .1 .1)
+    let grown = c .before .before .before .before in
+    let told = grown .before .before .before .before in
+    let asked = told .before .before in
+    let new = grown .take-new2 in
+    attribute-xmlns (decided asked) (told .enum-told3 .given .1) xmlns-bytes (omega (arith, start asked .pre .1 .0 .0)) (new .ensures .0) (new .ensures .1 .0) (new .result) (new .ensures .1 .1)
 
 same-length-17 : tie.Need-same-length-17
 same-length-17 c = search needs
@@ -237,21 +173,11 @@ same-length-21 c = search needs
 
 returns-5 : tie.Need-returns-5
 returns-5 c =
-    let s = c .before .before .before .before .before .before .before .before .before .before .before .before .before .before .before .before .before .before .before .before .before .before .before .before .before .before in
-    let t = s .args .table .now in
-    let p = s .args .pool .now in
-    let first = s .args .first .now in
-    let next = s .args .next .now in
-    let last = s .args .last .now in
-    let rows = s .args .sizes .rows in
-    let bytes = s .args .sizes .bytes in
-    let limit = s .args .limit in
-    let e = s .args .element .0 in
-    let a = s .args .attribute .0 in
-    let b = s .pre .0 in
-    let held : bytes ≤ length p = omega (arith, s .pre .1 .0 .0) in
-    let own = c .before .before .before .before .before .before .before .before .declare-own in
-    attribute-declared t p first next last rows bytes limit b held e a (s .pre .1 .1 .0 .0) (s .pre .1 .1 .1 .0 .1) (c .before .before .before .before .before .before .before .before .before .before .before .before .before .before .before .decide .result) (c .before .before .before .before .before .before .before .before .before .before .before .before .before .before .before .decide .ensures) _ _ _ _ (own .result) (c .before .before .before .before .before .before .before .before .before .before .before .before .before .enum-told4 .given .1) (own .ensures (take bytes p))
+    let declared = c .before .before .before .before .before .before .before .before in
+    let told = declared .before .before .before .before .before in
+    let asked = told .before .before in
+    let s = start asked in
+    attribute-declared (decided asked) (told .enum-told4 .given .1) (declared .declare-own .ensures (take (s .args .sizes .bytes) (s .args .pool .now)))
 
 same-length-22 : tie.Need-same-length-22
 same-length-22 c = search needs
@@ -270,21 +196,9 @@ same-length-26 c = search needs
 
 returns-6 : tie.Need-returns-6
 returns-6 c =
-    let s = c .before .before .before .before .before .before .before .before .before .before .before .before .before .before .before .before .before .before .before .before .before .before .before .before .before .before .before .before .before in
-    let t = s .args .table .now in
-    let p = s .args .pool .now in
-    let first = s .args .first .now in
-    let next = s .args .next .now in
-    let last = s .args .last .now in
-    let rows = s .args .sizes .rows in
-    let bytes = s .args .sizes .bytes in
-    let limit = s .args .limit in
-    let e = s .args .element .0 in
-    let a = s .args .attribute .0 in
-    let b = s .pre .0 in
-    let held : bytes ≤ length p = omega (arith, s .pre .1 .0 .0) in
-    let made = c .before .before .before .before .before .before .before .before .before .before .number in
-    attribute-numbered t p first next last rows bytes limit b held e a (s .pre .1 .1 .0 .0) (s .pre .1 .1 .1 .0 .1) (c .before .before .before .before .before .before .before .before .before .before .before .before .before .before .before .before .before .before .decide .result) (c .before .before .before .before .before .before .before .before .before .before .before .before .before .before .before .before .before .before .decide .ensures) _ _ _ _ _ _ _ (c .before .before .before .before .before .before .before .before .before .before .before .before .before .before .before .before .enum-told5 .given .1) (made .ensures)
+    let made = c .before .before .before .before .before .before .before .before .before .before in
+    let told = made .before .before .before .before .before .before in
+    attribute-numbered (decided (told .before .before)) (told .enum-told5 .given .1) (made .number .ensures)
 
 pub repair-attribute-spec : {M : Type 1} → statement M
 repair-attribute-spec =
