@@ -2,36 +2,36 @@
 -- Assumes nothing.
 use Prim.Native.Nat.{ℕ, zero, suc, _+_, _*_, _≤_, _<_, min, zero-le}
 use mathlib.Core.Path.{_≡_, refl, sym, _∙_, ap, subst}
-use mathlib.Core.Logic.{_⊎_, inl, inr, ⊎-elim}
-use mathlib.Core.Bool.{Bool, true, false, cond, _&&_}
-use mathlib.Core.List.{List, [], _∷_, _++_}
-use native.Mathlib.Nat.{le-refl, le-trans, lt-of-lt-of-le}
+use mathlib.Core.Logic.{inl, inr}
+use mathlib.Core.Bool.{Bool, true, false}
+use mathlib.Core.List.{List}
+use native.Mathlib.Nat.{le-refl}
 use native.Mathlib.Omega.{arith}
 use lib.ListN.{length, getD, take}
 use lib.Seq.{length-take-le}
-use lib.Dec.{eqb, ltb}
-use borrow.Author.Tests.{eqb-true, eq-eqb, ltb-true, ltb-false}
+use lib.Dec.{ltb}
+use borrow.Author.Tests.{ltb-true, ltb-false}
 use Rattle.rules.specs.Lists.{allOf}
-use Rattle.rules.specs.Table.{NONE, Node, nodes, node, word, words, rowCount, isElement}
-use Rattle.rules.specs.Lookups.{ownDeclarations, scopeAt}
-use Rattle.rules.specs.Normalization.{State, isAttributeOf, repairElement, repairAttribute, repairAttributes, normalizeRow, normalizeRows}
-use Rattle.rules.proofs.Lists.{by-cases, both-true, true-not-false}
-use Rattle.rules.proofs.Scope.{gathered-climb, above, SameCore, Kept}
-use Rattle.rules.proofs.Repairs.{above-kept, scope-kept, kept-attributes, kept-element, kept-row}
+use Rattle.rules.specs.Table.{Node, node, words, rowCount, isElement}
+use Rattle.rules.specs.Lookups.{ownDeclarations}
+use Rattle.rules.specs.Normalization.{State, isAttributeOf, repairAttribute, repairAttributes}
+use Rattle.rules.proofs.Lists.{by-cases}
+use Rattle.rules.proofs.Scope.{gathered-climb, above, Kept}
+use Rattle.rules.proofs.Repairs.{scope-kept, kept-attributes}
 use Rattle.rules.proofs.Result.{fitsIn}
 use Rattle.rules.proofs.Unique.{Steady, steady-attributes, element-after}
-use Rattle.rules.proofs.Bounds.{Bounded, bounded-attributes, attributesBefore, attributes-one, attributes-all, attributes-grow}
-use Rattle.index.specs.Links.{Linked, Stop, owned}
+use Rattle.rules.proofs.Bounds.{bounded-attributes, attributes-one, attributes-all, attributes-grow}
+use Rattle.index.specs.Links.{owned}
 use Rattle.index.proofs.Seek.{Clear, Sought}
-use Rattle.index.proofs.Appended.{linked-same, first-sought, next-sought}
+use Rattle.index.proofs.Appended.{first-sought, next-sought}
 use Rattle.index.proofs.Walk.{next-later}
-use Rattle.scope.specs.Ready.{Up, Upward}
+use Rattle.scope.specs.Ready.{Upward}
 use Rattle.buffers.proofs.Meaning.{words-of-buffer, rows-meant}
 use Rattle.climb.proofs.Words.{type-word, parent-word}
 use Rattle.repair.proofs.Steps.{counted, counted-rows}
 use Rattle.repair.proofs.Made.{written-made}
-use Rattle.repair.specs.Working.{rowsOf, Buffers, Stepped, meant, Written}
-use Rattle.normalizer.specs.Loops.{Roomy, Working}
+use Rattle.repair.specs.Working.{rowsOf, Buffers, meant, Written}
+use Rattle.normalizer.specs.Loops.{Working}
 
 -- What is written is what the buffers mean.
 pub written-meant : (t p first next last : List ℕ) (limit rows bytes : ℕ) (made : State) → Written t p first next last limit rows bytes made → rows ≤ limit → allOf (fitsIn (made .pool)) (made .rows) ≡ true → meant t p rows bytes ≡ made
@@ -108,11 +108,24 @@ pub record Walking (total limit e : ℕ) (t₀ p₀ first₀ next₀ last₀ : L
   pub nextLength : length next ≡ length next₀
   pub lastLength : length last ≡ length last₀
 
-module _ (total limit e : ℕ) (t₀ p₀ first₀ next₀ last₀ attributes following up : List ℕ) (rows₀ bytes₀ : ℕ)
-    (w : Working total limit t₀ p₀ first₀ next₀ last₀ attributes following rows₀ bytes₀ e) (small : e < total)
-    (element : isElement (node (meant t₀ p₀ rows₀ bytes₀ .rows) e .type) ≡ true) (upward : Upward (meant t₀ p₀ rows₀ bytes₀ .rows) up (e + 1)) where
+-- The walk starts from what repair_attributes asks for; e is the element's row, read as a place.
+module _ {total limit row e : ℕ} {t₀ p₀ first₀ next₀ last₀ attributes following up : List ℕ} {rows₀ bytes₀ : ℕ}
+    (asked : Working total limit t₀ p₀ first₀ next₀ last₀ attributes following rows₀ bytes₀ row × (((row < total) × (isElement (node (meant t₀ p₀ rows₀ bytes₀ .rows) row .type) ≡ true)) × Upward (meant t₀ p₀ rows₀ bytes₀ .rows) up (row + 1)))
+    (same : e ≡ row) where
   abbrev s : State
   s = meant t₀ p₀ rows₀ bytes₀
+
+  w : Working total limit t₀ p₀ first₀ next₀ last₀ attributes following rows₀ bytes₀ e
+  w = subst (Working total limit t₀ p₀ first₀ next₀ last₀ attributes following rows₀ bytes₀) (sym same) (asked .0)
+
+  small : e < total
+  small = omega (arith, same, asked .1 .0 .0)
+
+  element : isElement (node (s .rows) e .type) ≡ true
+  element = subst (λ (i : ℕ). isElement (node (s .rows) i .type) ≡ true) (sym same) (asked .1 .0 .1)
+
+  upward : Upward (s .rows) up (e + 1)
+  upward = subst (λ (i : ℕ). Upward (s .rows) up (i + 1)) (sym same) (asked .1 .1)
 
   abbrev test : ℕ → Bool
   test j = isAttributeOf e (node (s .rows) j)
@@ -129,8 +142,14 @@ module _ (total limit e : ℕ) (t₀ p₀ first₀ next₀ last₀ attributes fo
   fit₀ : 10 * rows₀ ≤ length t₀
   fit₀ = omega (arith, w .buffers .rowRoom, w .buffers .tableRoom)
 
-  pub limits : total ≤ 1024
+  limits : total ≤ 1024
   limits = omega (arith, long, count, w .buffers .rowRoom, w .buffers .limitSmall)
+
+  within-rows : e < length (s .rows)
+  within-rows = omega (arith, small, long)
+
+  pub element-small : e < 1024
+  element-small = omega (arith, small, limits)
 
   -- the links' test is the definition's
   same-test : (j : ℕ) → j < total → own e j ≡ test j
@@ -139,8 +158,8 @@ module _ (total limit e : ℕ) (t₀ p₀ first₀ next₀ last₀ attributes fo
       let within : j < rowCount (take (10 * rows₀) t₀) = rw (counted t₀ (take bytes₀ p₀) first₀ next₀ last₀ rows₀ limit (w .buffers)) (omega (arith, long, count)) in
       sym (rw (type-word (take (10 * rows₀) t₀) (take bytes₀ p₀) j within, parent-word (take (10 * rows₀) t₀) (take bytes₀ p₀) j within) refl)
 
-  place : e < length attributes
-  place = omega (arith, limits, w .places)
+  pub walk-place : e < length attributes
+  walk-place = omega (arith, element-small, w .places)
 
   -- from a link to the walk's next stop
   module _ (i : ℕ) (low : i ≤ total) (r : ℕ) (sought : Sought (own e) total i r) where
@@ -164,10 +183,10 @@ module _ (total limit e : ℕ) (t₀ p₀ first₀ next₀ last₀ attributes fo
             ap (λ (n : ℕ). repairAttributes e n s) here
             ∙ passed total e s long i r (q .0) (omega (arith, q .1)) (λ k a b. sym (same-test k (omega (arith, q .1))) ∙ q .3 k a b)
 
-  pub walk-start : (r : ℕ) → r ≡ getD attributes e 0 → Walking total limit e t₀ p₀ first₀ next₀ last₀ s t₀ p₀ first₀ next₀ last₀ rows₀ bytes₀ r
+  pub walk-start : {r : ℕ} → r ≡ getD attributes e 0 → Walking total limit e t₀ p₀ first₀ next₀ last₀ s t₀ p₀ first₀ next₀ last₀ rows₀ bytes₀ r
   unfolding repairAttributes
-  walk-start r read =
-      let sought : Sought (own e) total 0 r = subst (Sought (own e) total 0) (sym read) (first-sought own total attributes following (w .links) e place) in
+  walk-start {r} read =
+      let sought : Sought (own e) total 0 r = subst (Sought (own e) total 0) (sym read) (first-sought own total attributes following (w .links) e walk-place) in
       record {
         stop = next-stop 0 zero-le r sought;
         written =
@@ -181,11 +200,12 @@ module _ (total limit e : ℕ) (t₀ p₀ first₀ next₀ last₀ attributes fo
         lastLength = refl;
       }
 
-  module _ (t p first next last : List ℕ) (rows bytes r : ℕ) (h : Walking total limit e t₀ p₀ first₀ next₀ last₀ s t p first next last rows bytes r) where
-    pub walk-end : total ≤ r → Written t p first next last limit rows bytes (repairAttributes e total s)
+  module _ {t p first next last : List ℕ} {rows bytes r : ℕ} (h : Walking total limit e t₀ p₀ first₀ next₀ last₀ s t p first next last rows bytes r) where
+    pub walk-end : total ≤ r → Written t p first next last limit rows bytes (repairAttributes row total s)
     walk-end past =
         let all : min r total ≡ total = omega arith in
-        subst (λ (n : ℕ). Written t p first next last limit rows bytes (repairAttributes e n s)) all (h .written)
+        subst (λ (i : ℕ). Written t p first next last limit rows bytes (repairAttributes i total s)) same
+        (subst (λ (n : ℕ). Written t p first next last limit rows bytes (repairAttributes e n s)) all (h .written))
 
     module _ (below : r < total) where
       abbrev state : State
@@ -198,7 +218,7 @@ module _ (total limit e : ℕ) (t₀ p₀ first₀ next₀ last₀ attributes fo
       written = subst (λ (n : ℕ). Written t p first next last limit rows bytes (repairAttributes e n s)) here (h .written)
 
       steady : Steady total state
-      steady = steady-attributes total e r s (omega arith) (omega (arith, long)) element (w .steady)
+      steady = steady-attributes total e r s (omega arith) within-rows element (w .steady)
 
       pub walk-meant : meant t p rows bytes ≡ state
       walk-meant = written-meant t p first next last limit rows bytes state written (h .fits) (steady .fit)
@@ -228,50 +248,56 @@ module _ (total limit e : ℕ) (t₀ p₀ first₀ next₀ last₀ attributes fo
           let all = attributes-all base e (suc r) in
           omega (arith, bounded .bytes, one, all, roomy .count, roomy .fits, bytes-are, h .poolLength)
 
-      -- what repair_attribute asks for
-      pub walk-buffers : Buffers t first next last rows limit
-      walk-buffers = buffers
+      pub row-small : r < 1024
+      row-small = omega (arith, limits)
 
-      pub walk-room : (bytes + 6 ≤ length p) × (length p < 65536)
-      walk-room = (room, rw (h .poolLength) (w .poolSmall))
-
-      pub walk-within : (r < rows) × (e < rows)
-      walk-within =
-          let grown = kept .count in
-          (omega (arith, long, rows-count), omega (arith, long, rows-count))
+      pub walk-following : r < length following
+      walk-following = omega (arith, w .links .room)
 
       now-rows : state .rows ≡ meant t p rows bytes .rows
       now-rows = ap (λ (x : State). x .rows) (sym walk-meant)
 
-      pub walk-types : (isElement (node (meant t p rows bytes .rows) e .type) ≡ true) × (isAttributeOf e (node (meant t p rows bytes .rows) r) ≡ true)
-      walk-types = (
-        subst (λ (l : List Node). isElement (node l e .type) ≡ true) now-rows (element-after total e r s (omega arith) long (omega (arith, long)) element),
-        subst (λ (l : List Node). isAttributeOf e (node l r) ≡ true) now-rows is-attribute,
-      )
-
-      pub walk-upward : Upward (meant t p rows bytes .rows) up (e + 1)
-      walk-upward = subst (λ (l : List Node). Upward l up (e + 1)) now-rows (upward-kept total e (s .rows) (state .rows) kept up (omega (arith, long)) upward)
+      -- what repair_attribute asks for
+      pub walk-asks : Buffers t first next last rows limit × (((bytes + 6 ≤ length p) × (length p < 65536)) × (((r < rows) × (e < rows)) × (((isElement (node (meant t p rows bytes .rows) e .type) ≡ true) × (isAttributeOf e (node (meant t p rows bytes .rows) r) ≡ true)) × Upward (meant t p rows bytes .rows) up (e + 1))))
+      walk-asks =
+          let grown = kept .count in (
+            buffers,
+            (
+              (room, rw (h .poolLength) (w .poolSmall)),
+              (
+                (omega (arith, long, rows-count), omega (arith, within-rows, rows-count)),
+                (
+                  (
+                    subst (λ (l : List Node). isElement (node l e .type) ≡ true) now-rows (element-after total e r s (omega arith) long within-rows element),
+                    subst (λ (l : List Node). isAttributeOf e (node l r) ≡ true) now-rows is-attribute,
+                  ),
+                  subst (λ (l : List Node). Upward l up (e + 1)) now-rows (upward-kept total e (s .rows) (state .rows) kept up within-rows upward),
+                ),
+              ),
+            ),
+          )
 
       -- the attribute repaired
-      module _ (t′ p′ first′ next′ last′ : List ℕ) (rows′ bytes′ : ℕ) (made : Written t′ p′ first′ next′ last′ limit rows′ bytes′ (repairAttribute e r (meant t p rows bytes))) where
+      module _ {t′ p′ first′ next′ last′ : List ℕ} {rows′ bytes′ : ℕ} (made : Written t′ p′ first′ next′ last′ limit rows′ bytes′ (repairAttribute e r (meant t p rows bytes))) where
         made-next : Written t′ p′ first′ next′ last′ limit rows′ bytes′ (repairAttributes e (suc r) s)
         unfolding repairAttributes
         made-next = subst (λ (x : State). Written t′ p′ first′ next′ last′ limit rows′ bytes′ (repairAttribute e r x)) walk-meant made
 
-        pub walk-full : limit < rows′ → Written t′ p′ first′ next′ last′ limit rows′ bytes′ (repairAttributes e total s)
+        pub walk-full : limit < rows′ → Written t′ p′ first′ next′ last′ limit rows′ bytes′ (repairAttributes row total s)
         walk-full more =
             let much = made-next .full more in
-            record {
+            subst (λ (i : ℕ). Written t′ p′ first′ next′ last′ limit rows′ bytes′ (repairAttributes i total s)) same
+            (record {
               full = λ q. omega (arith, attributes-grow e s (suc r) total below);
               buffers = λ q. absurd (omega arith);
               words = λ q. absurd (omega arith);
               held = λ q. absurd (omega arith);
               room = λ q. absurd (omega arith);
-            }
+            })
 
-        pub walk-next : rows′ ≤ limit → length t′ ≡ length t → length p′ ≡ length p → length first′ ≡ length first → length next′ ≡ length next → length last′ ≡ length last → (r′ : ℕ) → r′ ≡ getD following r 0 → Walking total limit e t₀ p₀ first₀ next₀ last₀ s t′ p′ first′ next′ last′ rows′ bytes′ r′
-        walk-next fits tl pl fl nl ll r′ read =
-            let sought : Sought (own e) total (suc r) r′ = subst (Sought (own e) total (suc r)) (sym read) (next-sought own total attributes following (w .links) e r place below (same-test r below ∙ h .stop below)) in
+        pub walk-next : rows′ ≤ limit → length t′ ≡ length t → length p′ ≡ length p → length first′ ≡ length first → length next′ ≡ length next → length last′ ≡ length last → {r′ : ℕ} → r′ ≡ getD following r 0 → Walking total limit e t₀ p₀ first₀ next₀ last₀ s t′ p′ first′ next′ last′ rows′ bytes′ r′
+        walk-next fits tl pl fl nl ll {r′} read =
+            let sought : Sought (own e) total (suc r) r′ = subst (Sought (own e) total (suc r)) (sym read) (next-sought own total attributes following (w .links) e r walk-place below (same-test r below ∙ h .stop below)) in
             record {
               stop = next-stop (suc r) below r′ sought;
               written = subst (Written t′ p′ first′ next′ last′ limit rows′ bytes′) (sym (next-state (suc r) below r′ sought)) made-next;
@@ -283,6 +309,6 @@ module _ (total limit e : ℕ) (t₀ p₀ first₀ next₀ last₀ attributes fo
               lastLength = ll ∙ h .lastLength;
             }
 
-      pub walk-falls : (r′ : ℕ) → r′ ≡ getD following r 0 → r < r′
-      walk-falls r′ read =
-          rw read (next-later own total attributes following (w .links) (omega (arith, limits)) e place r below (same-test r below ∙ h .stop below))
+      pub walk-falls : {r′ : ℕ} → r′ ≡ getD following r 0 → r < r′
+      walk-falls {r′} read =
+          rw read (next-later own total attributes following (w .links) (omega (arith, limits)) e walk-place r below (same-test r below ∙ h .stop below))

@@ -1,26 +1,25 @@
 -- One row, and all rows.
 -- Assumes nothing.
-use Prim.Native.Nat.{ℕ, zero, suc, _+_, _*_, _≤_, _<_, zero-le}
+use Prim.Native.Nat.{ℕ, suc, _+_, _*_, _≤_, _<_, zero-le}
 use mathlib.Core.Path.{_≡_, refl, sym, _∙_, ap, subst}
-use mathlib.Core.Bool.{Bool, true, false, cond, _&&_}
-use mathlib.Core.List.{List, [], _∷_, _++_}
-use native.Mathlib.Nat.{le-refl, le-trans, lt-of-lt-of-le}
+use mathlib.Core.Bool.{true}
+use mathlib.Core.List.{List}
 use native.Mathlib.Omega.{arith}
 use native.Mathlib.Numerals.{add-one}
-use lib.ListN.{length, getD, take}
-use lib.Dec.{eqb}
-use Rattle.rules.specs.Table.{Node, nodes, node, word, rowCount, isElement}
+use lib.ListN.{length, take}
+use Rattle.rules.specs.Table.{Node, node, word, rowCount, isElement}
 use Rattle.rules.specs.Normalization.{State, isAttributeOf, repairElement, repairAttributes, normalizeRow, normalizeRows}
-use Rattle.rules.proofs.Scope.{SameCore, Kept}
+use Rattle.rules.proofs.Scope.{Kept}
 use Rattle.rules.proofs.Repairs.{kept-element, kept-row, is-element}
-use Rattle.rules.proofs.Unique.{Steady, steady-element, steady-rows, repairedUpTo, row-element, row-other}
-use Rattle.rules.proofs.Bounds.{Bounded, bounded-element, bounded-row, bounded-rows, attributes-grow, rows-grow}
+use Rattle.rules.proofs.Unique.{Unique, Steady, steady-element, steady-rows, row-element, row-other}
+use Rattle.rules.proofs.Bounds.{Bounded, bounded-element, bounded-row, attributes-grow, rows-grow}
 use Rattle.index.specs.Links.{Linked, owned}
 use Rattle.index.proofs.Appended.{linked-same}
 use Rattle.climb.proofs.Words.{type-word, parent-word}
-use Rattle.scope.specs.Ready.{Upward}
+use Rattle.scope.specs.Ready.{Ready, Upward}
+use Rattle.scope.proofs.Upwards.{upward-none}
 use Rattle.buffers.proofs.Meaning.{words-of-buffer}
-use Rattle.repair.proofs.Steps.{counted, counted-rows}
+use Rattle.repair.proofs.Steps.{counted, counted-rows, buffers-ready}
 use Rattle.repair.proofs.Made.{written-made}
 use Rattle.repair.specs.Working.{rowsOf, Buffers, Stepped, meant, Written}
 use Rattle.normalizer.specs.Loops.{Roomy, Working}
@@ -43,26 +42,42 @@ links-kept total k t pool first next last t′ pool′ first′ next′ last′ 
     ∙ sym (owned-meant t′ pool′ first′ next′ last′ rows′ limit b′ x j (omega arith)))
     attributes following links
 
-module _ (total limit r : ℕ) (t p first next last attributes following : List ℕ) (rows bytes : ℕ)
+module _ {total limit r : ℕ} {t p first next last attributes following : List ℕ} {rows bytes : ℕ}
     (w : Working total limit t p first next last attributes following rows bytes r) (small : r < total) where
   abbrev s : State
   s = meant t p rows bytes
 
-  pub row-count : length (s .rows) ≡ rows
+  row-count : length (s .rows) ≡ rows
   row-count = counted-rows t (take bytes p) first next last rows limit (w .buffers)
 
-  pub row-within : r < rows
+  row-within : r < rows
   row-within = omega (arith, w .steady .long, row-count)
 
+  -- the same, of the table's words
+  word-within : r < rowCount (take (10 * rows) t)
+  word-within = rw (counted t (take bytes p) first next last rows limit (w .buffers)) row-within
+
+  -- the word that is read is the row's type
+  type-read : {type : ℕ} → type ≡ word (take (10 * rows) t) r 0 → type ≡ node (s .rows) r .type
+  type-read read = read ∙ sym (type-word (take (10 * rows) t) (take bytes p) r word-within)
+
   -- a row that is no element
-  pub row-skipped : (kind : ℕ) → kind ≡ node (s .rows) r .type → (kind ≡ 1 → ⊥) → Written t p first next last limit rows bytes (normalizeRow total r s)
-  row-skipped kind is other =
-      subst (Written t p first next last limit rows bytes) (sym (row-other total r s (λ e. other (is ∙ e))))
+  pub row-skipped : {type : ℕ} → type ≡ word (take (10 * rows) t) r 0 → (type ≡ 1 → ⊥) → Written t p first next last limit rows bytes (normalizeRow total r s)
+  row-skipped read other =
+      subst (Written t p first next last limit rows bytes) (sym (row-other total r s (λ e. other (type-read read ∙ e))))
       (written-made t p first next last limit rows bytes s (w .buffers) (words-of-buffer t (take bytes p) rows (omega (arith, w .buffers .rowRoom, w .buffers .tableRoom))) refl (w .bytesRoom))
 
-  module _ (kind : node (s .rows) r .type ≡ 1) where
-    pub row-element-type : isElement (node (s .rows) r .type) ≡ true
+  -- an element
+  module _ {type : ℕ} (read : type ≡ word (take (10 * rows) t) r 0) (one : type ≡ 1) where
+    kind : node (s .rows) r .type ≡ 1
+    kind = sym (type-read read) ∙ one
+
+    row-element-type : isElement (node (s .rows) r .type) ≡ true
     row-element-type = is-element (node (s .rows) r) kind
+
+    -- what repair_element asks for
+    pub element-asks : {up : List ℕ} → Upward (s .rows) up (r + 1) → Buffers t first next last rows limit × (((r < rows) × (isElement (node (s .rows) r .type) ≡ true)) × (Unique (s .rows) × Upward (s .rows) up (r + 1)))
+    element-asks upward = (w .buffers, ((row-within, row-element-type), (w .steady .unique, upward)))
 
     abbrev s₁ : State
     s₁ = record { rows = repairElement r (s .rows); pool = take bytes p }
@@ -73,7 +88,7 @@ module _ (total limit r : ℕ) (t p first next last attributes following : List 
     kept : Kept total r (s .rows) (s₁ .rows)
     kept = kept-element total r (s .rows) (omega (arith, w .steady .long)) (w .steady .long) kind
 
-    module _ (t′ first′ next′ last′ : List ℕ) (count : ℕ) (step : Stepped t′ (take bytes p) first′ next′ last′ limit count (repairElement r (s .rows))) where
+    module _ {t′ first′ next′ last′ : List ℕ} {count : ℕ} (step : Stepped t′ (take bytes p) first′ next′ last′ limit count (repairElement r (s .rows))) where
       pub row-full : limit < count → Written t′ p first′ next′ last′ limit count bytes (normalizeRow total r s)
       unfolding repairAttributes
       row-full more =
@@ -96,7 +111,7 @@ module _ (total limit r : ℕ) (t p first next last attributes following : List 
         kept′ : Kept total r (s .rows) (rowsOf t′ (take bytes p) count)
         kept′ = subst (Kept total r (s .rows)) (sym (step .rows fits)) kept
 
-        pub row-working : Working total limit t′ p first′ next′ last′ attributes following count bytes r
+        row-working : Working total limit t′ p first′ next′ last′ attributes following count bytes r
         row-working =
             record {
               buffers = step .buffers fits;
@@ -116,16 +131,17 @@ module _ (total limit r : ℕ) (t p first next last attributes following : List 
                   };
             }
 
-        pub row-element-still : isElement (node (meant t′ p count bytes .rows) r .type) ≡ true
+        row-element-still : isElement (node (meant t′ p count bytes .rows) r .type) ≡ true
         row-element-still =
             let c = kept′ .core r (omega (arith, w .steady .long)) in
             rw (c .type) row-element-type
 
-        pub row-upward : (up : List ℕ) → Upward (s .rows) up (r + 1) → Upward (meant t′ p count bytes .rows) up (r + 1)
-        row-upward up h = upward-kept total r (s .rows) (rowsOf t′ (take bytes p) count) kept′ up (omega (arith, w .steady .long)) h
+        -- what repair_attributes asks for
+        pub attributes-ask : {up : List ℕ} → Upward (s .rows) up (r + 1) → Working total limit t′ p first′ next′ last′ attributes following count bytes r × (((r < total) × (isElement (node (meant t′ p count bytes .rows) r .type) ≡ true)) × Upward (meant t′ p count bytes .rows) up (r + 1))
+        attributes-ask {up} upward = (row-working, ((small, row-element-still), upward-kept total r (s .rows) (rowsOf t′ (take bytes p) count) kept′ up (omega (arith, w .steady .long)) upward))
 
-        pub row-made : (t₂ p₂ first₂ next₂ last₂ : List ℕ) (rows₂ bytes₂ : ℕ) → Written t₂ p₂ first₂ next₂ last₂ limit rows₂ bytes₂ (repairAttributes r total (meant t′ p count bytes)) → Written t₂ p₂ first₂ next₂ last₂ limit rows₂ bytes₂ (normalizeRow total r s)
-        row-made t₂ p₂ first₂ next₂ last₂ rows₂ bytes₂ made =
+        pub row-made : {t₂ p₂ first₂ next₂ last₂ : List ℕ} {rows₂ bytes₂ : ℕ} → Written t₂ p₂ first₂ next₂ last₂ limit rows₂ bytes₂ (repairAttributes r total (meant t′ p count bytes)) → Written t₂ p₂ first₂ next₂ last₂ limit rows₂ bytes₂ (normalizeRow total r s)
+        row-made {t₂} {p₂} {first₂} {next₂} {last₂} {rows₂} {bytes₂} made =
             subst (Written t₂ p₂ first₂ next₂ last₂ limit rows₂ bytes₂) (ap (repairAttributes r total) row-meant ∙ sym same-row) made
 
 -- The pass over the rows has come to row k, from the state s₀.
@@ -141,97 +157,128 @@ pub record Passing (total limit : ℕ) (t₀ p₀ first₀ next₀ last₀ up₀
   pub lastLength : length last ≡ length last₀
   pub upLength : length up ≡ length up₀
 
-module _ (total limit : ℕ) (t₀ p₀ first₀ next₀ last₀ up₀ attributes following : List ℕ) (s₀ : State) (steady₀ : Steady total s₀)
-    (t p first next last up : List ℕ) (rows bytes k : ℕ) (h : Passing total limit t₀ p₀ first₀ next₀ last₀ up₀ s₀ t p first next last up attributes following rows bytes k) where
-  pub pass-end : total ≤ k → Written t p first next last limit rows bytes (normalizeRows total total s₀)
-  pass-end past =
-      let w = h .working in
-      let all : k ≡ total = omega (arith, h .low) in
-      subst (Written t p first next last limit rows bytes) (h .state ∙ ap (λ (n : ℕ). normalizeRows total n s₀) all)
-      (written-made t p first next last limit rows bytes (meant t p rows bytes) (w .buffers) (words-of-buffer t (take bytes p) rows (omega (arith, w .buffers .rowRoom, w .buffers .tableRoom))) refl (w .bytesRoom))
+-- The pass starts from what normalize_rows asks for.
+module _ {total limit : ℕ} {t₀ p₀ first₀ next₀ last₀ attributes following : List ℕ} {rows₀ bytes₀ : ℕ}
+    (w₀ : Working total limit t₀ p₀ first₀ next₀ last₀ attributes following rows₀ bytes₀ 0) where
+  abbrev s₀ : State
+  s₀ = meant t₀ p₀ rows₀ bytes₀
 
-  module _ (below : k < total) (t′ p′ first′ next′ last′ : List ℕ) (rows′ bytes′ : ℕ)
-      (made : Written t′ p′ first′ next′ last′ limit rows′ bytes′ (normalizeRow total k (meant t p rows bytes))) where
-    next-state : normalizeRow total k (meant t p rows bytes) ≡ normalizeRows total (suc k) s₀
-    unfolding normalizeRows
-    next-state = ap (normalizeRow total k) (h .state)
+  pub pass-start : {up₀ : List ℕ} → Passing total limit t₀ p₀ first₀ next₀ last₀ up₀ s₀ t₀ p₀ first₀ next₀ last₀ up₀ attributes following rows₀ bytes₀ 0
+  unfolding normalizeRows
+  pass-start {up₀} =
+      record {
+        working = w₀;
+        state = refl;
+        upward = upward-none (s₀ .rows) up₀;
+        low = zero-le;
+        tableLength = refl;
+        poolLength = refl;
+        firstLength = refl;
+        nextLength = refl;
+        lastLength = refl;
+        upLength = refl;
+      }
 
-    pub pass-full : limit < rows′ → Written t′ p′ first′ next′ last′ limit rows′ bytes′ (normalizeRows total total s₀)
-    pass-full more =
-        let much = made .full more in
-        record {
-          full = λ q. omega (arith, ap (λ (x : State). length (x .rows)) next-state, rows-grow total s₀ (suc k) total below);
-          buffers = λ q. absurd (omega arith);
-          words = λ q. absurd (omega arith);
-          held = λ q. absurd (omega arith);
-          room = λ q. absurd (omega arith);
-        }
+  module _ {up₀ t p first next last up : List ℕ} {rows bytes k : ℕ} (h : Passing total limit t₀ p₀ first₀ next₀ last₀ up₀ s₀ t p first next last up attributes following rows bytes k) where
+    pub pass-table : 10 * rows ≤ length t
+    pass-table = let b = h .working .buffers in omega (arith, b .rowRoom, b .tableRoom)
 
-    module _ (fits : rows′ ≤ limit) (tl : length t′ ≡ length t) (pl : length p′ ≡ length p) (fl : length first′ ≡ length first)
-        (nl : length next′ ≡ length next) (ll : length last′ ≡ length last) (up′ : List ℕ) (ul : length up′ ≡ length up)
-        (linked : Upward (meant t p rows bytes .rows) up′ (k + 1)) where
-      abbrev w : Working total limit t p first next last attributes following rows bytes k
-      w = h .working
+    pub pass-small : k < total → k < 1024
+    pass-small below = let b = h .working .buffers in omega (arith, below, h .working .steady .long, row-count (h .working) below, b .rowRoom, b .limitSmall)
 
-      steady′ : Steady total (normalizeRow total k (meant t p rows bytes))
-      steady′ = subst (Steady total) (sym next-state) (steady-rows total (suc k) s₀ below steady₀)
+    -- what link_upward asks for
+    pub link-asks : 1024 ≤ length up₀ → k < total → Ready (take (10 * rows) t) first next × ((k < rowCount (take (10 * rows) t)) × (Upward (meant t p rows bytes .rows) up k × (k < length up)))
+    link-asks places below = (buffers-ready t (take bytes p) first next last rows limit (h .working .buffers), (word-within (h .working) below, (h .upward, omega (arith, pass-small below, h .upLength, places))))
 
-      now : meant t′ p′ rows′ bytes′ ≡ normalizeRow total k (meant t p rows bytes)
-      now = written-meant t′ p′ first′ next′ last′ limit rows′ bytes′ (normalizeRow total k (meant t p rows bytes)) made fits (steady′ .fit)
+    pub pass-end : total ≤ k → Written t p first next last limit rows bytes (normalizeRows total total s₀)
+    pass-end past =
+        let w = h .working in
+        let all : k ≡ total = omega (arith, h .low) in
+        subst (Written t p first next last limit rows bytes) (h .state ∙ ap (λ (n : ℕ). normalizeRows total n s₀) all)
+        (written-made t p first next last limit rows bytes (meant t p rows bytes) (w .buffers) (words-of-buffer t (take bytes p) rows pass-table) refl (w .bytesRoom))
 
-      b′ : Buffers t′ first′ next′ last′ rows′ limit
-      b′ = made .buffers fits
+    module _ (below : k < total) {t′ p′ first′ next′ last′ : List ℕ} {rows′ bytes′ : ℕ}
+        (made : Written t′ p′ first′ next′ last′ limit rows′ bytes′ (normalizeRow total k (meant t p rows bytes))) where
+      next-state : normalizeRow total k (meant t p rows bytes) ≡ normalizeRows total (suc k) s₀
+      unfolding normalizeRows
+      next-state = ap (normalizeRow total k) (h .state)
 
-      count′ : length (normalizeRow total k (meant t p rows bytes) .rows) ≡ rows′
-      count′ = ap (λ (x : State). length (x .rows)) (sym now) ∙ counted-rows t′ (take bytes′ p′) first′ next′ last′ rows′ limit b′
-
-      row-kept : Kept total k (meant t p rows bytes .rows) (normalizeRow total k (meant t p rows bytes) .rows)
-      row-kept = kept-row total k (meant t p rows bytes) (omega (arith, w .steady .long)) (w .steady .long)
-
-      now-kept : Kept total k (meant t p rows bytes .rows) (meant t′ p′ rows′ bytes′ .rows)
-      now-kept = subst (λ (x : State). Kept total k (meant t p rows bytes .rows) (x .rows)) (sym now) row-kept
-
-      roomy′ : Roomy total (length p′) (k + 1) 0 (meant t′ p′ rows′ bytes′)
-      roomy′ =
-          let roomy = w .roomy in
-          let base = roomy .base in
-          let one : Bounded base (roomy .start) (suc k) 0 (normalizeRow total k (meant t p rows bytes)) =
-          subst (λ (n : ℕ). Bounded base (roomy .start) (suc k) 0 (normalizeRow n k (meant t p rows bytes))) (roomy .count)
-          (bounded-row base (roomy .start) k (meant t p rows bytes) (rw (roomy .count) below)
-          (subst (λ (n : ℕ). length (normalizeRow n k (meant t p rows bytes) .rows) < 9999) (sym (roomy .count)) (omega (arith, count′, b′ .limitSmall)))
-          (roomy .bounded))
-          in
+      pub pass-full : limit < rows′ → Written t′ p′ first′ next′ last′ limit rows′ bytes′ (normalizeRows total total s₀)
+      pass-full more =
+          let much = made .full more in
           record {
-            base = base;
-            start = roomy .start;
-            count = roomy .count;
-            fits = rw pl (roomy .fits);
-            bounded = rw (add-one k, now) one;
+            full = λ q. omega (arith, ap (λ (x : State). length (x .rows)) next-state, rows-grow total s₀ (suc k) total below);
+            buffers = λ q. absurd (omega arith);
+            words = λ q. absurd (omega arith);
+            held = λ q. absurd (omega arith);
+            room = λ q. absurd (omega arith);
           }
 
-      pub pass-next : Passing total limit t₀ p₀ first₀ next₀ last₀ up₀ s₀ t′ p′ first′ next′ last′ up′ attributes following rows′ bytes′ (k + 1)
-      pass-next =
-          record {
-            working =
-                record {
-                  buffers = b′;
-                  bytesRoom = made .room fits;
-                  poolSmall = rw pl (w .poolSmall);
-                  steady = subst (Steady total) (sym now) steady′;
-                  links =
-                      links-kept total k t (take bytes p) first next last t′ (take bytes′ p′) first′ next′ last′ attributes following rows rows′ limit (w .buffers) b′
-                      (omega (arith, w .steady .long, counted-rows t (take bytes p) first next last rows limit (w .buffers)))
-                      (omega (arith, steady′ .long, count′)) now-kept (w .links);
-                  places = w .places;
-                  roomy = roomy′;
-                };
-            state = now ∙ next-state ∙ ap (λ (n : ℕ). normalizeRows total n s₀) (sym (add-one k));
-            upward = upward-kept total k (meant t p rows bytes .rows) (meant t′ p′ rows′ bytes′ .rows) now-kept up′ (omega (arith, w .steady .long)) linked;
-            low = omega arith;
-            tableLength = tl ∙ h .tableLength;
-            poolLength = pl ∙ h .poolLength;
-            firstLength = fl ∙ h .firstLength;
-            nextLength = nl ∙ h .nextLength;
-            lastLength = ll ∙ h .lastLength;
-            upLength = ul ∙ h .upLength;
-          }
+      module _ (fits : rows′ ≤ limit) (tl : length t′ ≡ length t) (pl : length p′ ≡ length p) (fl : length first′ ≡ length first)
+          (nl : length next′ ≡ length next) (ll : length last′ ≡ length last) {up′ : List ℕ} (ul : length up′ ≡ length up)
+          (linked : Upward (meant t p rows bytes .rows) up′ (k + 1)) where
+        abbrev w : Working total limit t p first next last attributes following rows bytes k
+        w = h .working
+
+        steady′ : Steady total (normalizeRow total k (meant t p rows bytes))
+        steady′ = subst (Steady total) (sym next-state) (steady-rows total (suc k) s₀ below (w₀ .steady))
+
+        now : meant t′ p′ rows′ bytes′ ≡ normalizeRow total k (meant t p rows bytes)
+        now = written-meant t′ p′ first′ next′ last′ limit rows′ bytes′ (normalizeRow total k (meant t p rows bytes)) made fits (steady′ .fit)
+
+        b′ : Buffers t′ first′ next′ last′ rows′ limit
+        b′ = made .buffers fits
+
+        count′ : length (normalizeRow total k (meant t p rows bytes) .rows) ≡ rows′
+        count′ = ap (λ (x : State). length (x .rows)) (sym now) ∙ counted-rows t′ (take bytes′ p′) first′ next′ last′ rows′ limit b′
+
+        row-kept : Kept total k (meant t p rows bytes .rows) (normalizeRow total k (meant t p rows bytes) .rows)
+        row-kept = kept-row total k (meant t p rows bytes) (omega (arith, w .steady .long)) (w .steady .long)
+
+        now-kept : Kept total k (meant t p rows bytes .rows) (meant t′ p′ rows′ bytes′ .rows)
+        now-kept = subst (λ (x : State). Kept total k (meant t p rows bytes .rows) (x .rows)) (sym now) row-kept
+
+        roomy′ : Roomy total (length p′) (k + 1) 0 (meant t′ p′ rows′ bytes′)
+        roomy′ =
+            let roomy = w .roomy in
+            let base = roomy .base in
+            let one : Bounded base (roomy .start) (suc k) 0 (normalizeRow total k (meant t p rows bytes)) =
+            subst (λ (n : ℕ). Bounded base (roomy .start) (suc k) 0 (normalizeRow n k (meant t p rows bytes))) (roomy .count)
+            (bounded-row base (roomy .start) k (meant t p rows bytes) (rw (roomy .count) below)
+            (subst (λ (n : ℕ). length (normalizeRow n k (meant t p rows bytes) .rows) < 9999) (sym (roomy .count)) (omega (arith, count′, b′ .limitSmall)))
+            (roomy .bounded))
+            in
+            record {
+              base = base;
+              start = roomy .start;
+              count = roomy .count;
+              fits = rw pl (roomy .fits);
+              bounded = rw (add-one k, now) one;
+            }
+
+        pub pass-next : Passing total limit t₀ p₀ first₀ next₀ last₀ up₀ s₀ t′ p′ first′ next′ last′ up′ attributes following rows′ bytes′ (k + 1)
+        pass-next =
+            record {
+              working =
+                  record {
+                    buffers = b′;
+                    bytesRoom = made .room fits;
+                    poolSmall = rw pl (w .poolSmall);
+                    steady = subst (Steady total) (sym now) steady′;
+                    links =
+                        links-kept total k t (take bytes p) first next last t′ (take bytes′ p′) first′ next′ last′ attributes following rows rows′ limit (w .buffers) b′
+                        (omega (arith, w .steady .long, counted-rows t (take bytes p) first next last rows limit (w .buffers)))
+                        (omega (arith, steady′ .long, count′)) now-kept (w .links);
+                    places = w .places;
+                    roomy = roomy′;
+                  };
+              state = now ∙ next-state ∙ ap (λ (n : ℕ). normalizeRows total n s₀) (sym (add-one k));
+              upward = upward-kept total k (meant t p rows bytes .rows) (meant t′ p′ rows′ bytes′ .rows) now-kept up′ (omega (arith, w .steady .long)) linked;
+              low = omega arith;
+              tableLength = tl ∙ h .tableLength;
+              poolLength = pl ∙ h .poolLength;
+              firstLength = fl ∙ h .firstLength;
+              nextLength = nl ∙ h .nextLength;
+              lastLength = ll ∙ h .lastLength;
+              upLength = ul ∙ h .upLength;
+            }

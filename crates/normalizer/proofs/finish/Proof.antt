@@ -1,6 +1,8 @@
 -- `normalizer::finish` meets its contract.
 -- Assumes nothing.
+use Prim.Native.Nat.{ℕ}
 use mathlib.Core.Path.{refl}
+use mathlib.Core.List.{List}
 use lib.ListN.{length}
 use lib.Seq.{length-take-le}
 use borrow.Author.Needs.{needs}
@@ -8,6 +10,15 @@ use Rattle.repair.proofs.Steps.{count-part}
 use Rattle.normalizer.proofs.Whole.{ended-limit, ended-room, ended-done}
 use Rattle.normalizer.proofs.finish.Statement.{statement}
 use Rattle.normalizer.proofs.finish.Tie as tie
+
+abbrev table : tie.Start → List ℕ
+table s = s .args .out-table .now
+
+abbrev work : tie.Start → List ℕ
+work s = s .args .work .now
+
+abbrev size : tie.Start → ℕ
+size s = length (s .args .out-pool .now)
 
 refuse-requires : tie.Need-refuse-requires
 refuse-requires c κs = search needs
@@ -20,14 +31,9 @@ same-length-2 c = search needs
 
 returns : tie.Need-returns
 returns c =
-    let s = c .before .before .before .before .before .before .before .before .before .before .before in
-    let table = s .args .out-table .now in
-    let work = s .args .work .now in
-    let size = length (s .args .out-pool .now) in
-    let rows = s .args .rows in
-    let bytes = s .args .bytes in
-    let r = c .before .before .before .before .refuse in
-    ended-limit table work size rows bytes (c .before .before .before .before .before .before .before .if1 .taken) _ _ _ (r .ensures .0) (r .ensures .1 .0) (r .ensures .1 .1)
+    let b = c .before .before .before .before .before .before .before in
+    let s = b .before .before .before .before in
+    ended-limit (table s) (work s) (size s) (s .args .rows) (s .args .bytes) (b .if1 .taken) (c .before .before .before .before .refuse .ensures)
 
 refuse-requires-2 : tie.Need-refuse-requires-2
 refuse-requires-2 c κs = search needs
@@ -40,14 +46,9 @@ same-length-4 c = search needs
 
 returns-2 : tie.Need-returns-2
 returns-2 c =
-    let s = c .before .before .before .before .before .before .before .before .before .before .before .before in
-    let table = s .args .out-table .now in
-    let work = s .args .work .now in
-    let size = length (s .args .out-pool .now) in
-    let rows = s .args .rows in
-    let bytes = s .args .bytes in
-    let r = c .before .before .before .before .refuse2 in
-    ended-room table work size rows bytes (c .before .before .before .before .before .before .before .before .if1 .left) (c .before .before .before .before .before .before .before .if2 .taken) _ _ _ (r .ensures .0) (r .ensures .1 .0) (r .ensures .1 .1)
+    let b = c .before .before .before .before .before .before .before in
+    let s = b .before .before .before .before .before in
+    ended-room (table s) (work s) (size s) (s .args .rows) (s .args .bytes) (b .before .if1 .left) (b .if2 .taken) (c .before .before .before .before .refuse2 .ensures)
 
 mul-clear-words : tie.Need-mul-clear-words
 mul-clear-words c = search needs
@@ -58,16 +59,13 @@ clear-words-requires c κs = search needs
 slice-aggregate-copy-bytes : tie.Need-slice-aggregate-copy-bytes
 slice-aggregate-copy-bytes c =
     let s = c .before .before .before .before .before .before .before .before .before .before in
-    let work = s .args .work .now in
-    let bytes = s .args .bytes in
-    count-part work bytes (s .pre .1)
+    count-part (work s) (s .args .bytes) (s .pre .1)
 
 copy-bytes-requires : tie.Need-copy-bytes-requires
 copy-bytes-requires c κs =
-    let s = c .before .before .before .before .before .before .before .before .before .before .before in
-    let work = s .args .work .now in
-    let bytes = s .args .bytes in
-    rw (length-take-le bytes work (s .pre .1)) (c .before .before .before .before .before .before .if2 .left)
+    let b = c .before .before .before .before .before .before in
+    let s = b .before .before .before .before .before in
+    rw (length-take-le (s .args .bytes) (work s) (s .pre .1)) (b .if2 .left)
 
 clear-bytes-requires : tie.Need-clear-bytes-requires
 clear-bytes-requires c κs = search needs
@@ -80,13 +78,11 @@ same-length-6 c = search needs
 
 returns-3 : tie.Need-returns-3
 returns-3 c =
-    let s = c .before .before .before .before .before .before .before .before .before .before .before .before .before .before .before .before .before .before in
-    let table = s .args .out-table .now in
-    let work = s .args .work .now in
-    let size = length (s .args .out-pool .now) in
-    let rows = s .args .rows in
-    let bytes = s .args .bytes in
-    ended-done table work size rows bytes (c .before .before .before .before .before .before .before .before .before .before .before .before .before .before .if1 .left) (c .before .before .before .before .before .before .before .before .before .before .before .before .before .if2 .left) (s .pre .0) (s .pre .1) _ (s .args .out-pool .now) _ _ refl (c .before .before .before .before .before .before .before .before .before .before .before .clear-words .ensures) (c .before .before .before .before .before .before .copy-bytes .ensures) (c .before .before .clear-bytes .ensures)
+    let cleared = c .before .before .before .before .before .before .before .before .before .before .before in
+    let b = cleared .before .before in
+    let s = b .before .before .before .before .before in
+    ended-done (table s) (work s) (size s) (s .args .rows) (s .args .bytes) (b .before .if1 .left) (b .if2 .left) (s .pre .0) (s .pre .1)
+    (s .args .out-pool .now) refl (cleared .clear-words .ensures) (c .before .before .before .before .before .before .copy-bytes .ensures) (c .before .before .clear-bytes .ensures)
 
 pub finish-spec : {M : Type 1} → statement M
 finish-spec =

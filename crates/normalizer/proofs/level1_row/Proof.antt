@@ -1,10 +1,10 @@
 -- `normalizer::level1_row` meets its contract. The invariant: what the scan finds from here on is what there is to find.
 -- Assumes nothing.
-use Prim.Native.Nat.{_-_, _<_}
+use Prim.Native.Nat.{ℕ, _-_}
 use mathlib.Core.Path.{_≡_, refl, sym, _∙_, ap}
+use mathlib.Core.List.{List}
 use native.Mathlib.Omega.{arith}
 use borrow.Author.Needs.{needs}
-use Rattle.rules.specs.Table.{rowCount, isLevel1}
 use Rattle.climb.specs.Found.{rowOr}
 use Rattle.normalizer.proofs.Whole.{level1From, scan-hit, scan-miss, scan-end, scan-all}
 use Rattle.normalizer.proofs.level1_row.Statement.{statement}
@@ -15,6 +15,12 @@ Inv-loop table n at₀ at = level1From table at ≡ level1From table 0
 
 abbrev μ-loop : tie.MeasureT-loop
 μ-loop table n at₀ at = n - at
+
+abbrev turn : tie.After-is-level1 Inv-loop μ-loop → tie.In-loop Inv-loop μ-loop
+turn c = c .before .before
+
+abbrev table : tie.In-loop Inv-loop μ-loop → List ℕ
+table c = c .before .before .before .args .table .now
 
 loop-holds : tie.Need-loop-holds Inv-loop μ-loop
 loop-holds c = refl
@@ -30,39 +36,23 @@ is-level1-requires c κs = search needs
 
 returns : tie.Need-returns Inv-loop μ-loop
 returns c = λ pool.
-    let s = c .before .before .before .before .before .before in
-    let table = s .args .table .now in
-    let l = c .before .before .before .before .loop in
-    let less : l .at < rowCount table = c .before .before .before .loop-test .taken in
-    let is = ap isLevel1 (sym (c .before .before .word .ensures)) ∙ sym (c .before .is-level1 .ensures) in
-    sym (ap rowOr (scan-all table pool ∙ sym (l .inv) ∙ scan-hit table (l .at) less (is ∙ c .if1 .taken)))
+    let i = c .before in
+    let l = turn i in
+    sym (ap rowOr (scan-all (table l) pool ∙ sym (l .before .loop .inv) ∙ scan-hit (table l) (l .before .loop .at) (l .loop-test .taken) (i .before .word .ensures) (i .is-level1 .ensures) (c .if1 .taken)))
 
 add-at : tie.Need-add-at Inv-loop μ-loop
 add-at c =
-    let s = c .before .before .before .before .before .before in
-    let table = s .args .table .now in
-    let l = c .before .before .before .before .loop in
-    let less : l .at < rowCount table = c .before .before .before .loop-test .taken in
-    let is = ap isLevel1 (sym (c .before .before .word .ensures)) ∙ sym (c .before .is-level1 .ensures) in
-    record { fits = omega (arith, s .pre) }
+    let l = turn (c .before) in
+    record { fits = omega (arith, l .loop-test .taken, l .before .before .before .pre) }
 
 loop-less : tie.Need-loop-less Inv-loop μ-loop
-loop-less c =
-    let s = c .before .before .before .before .before .before in
-    let table = s .args .table .now in
-    let l = c .before .before .before .before .loop in
-    let less : l .at < rowCount table = c .before .before .before .loop-test .taken in
-    let is = ap isLevel1 (sym (c .before .before .word .ensures)) ∙ sym (c .before .is-level1 .ensures) in
-    omega arith
+loop-less c = omega (arith, turn (c .before) .loop-test .taken)
 
 loop-again : tie.Need-loop-again Inv-loop μ-loop
 loop-again c =
-    let s = c .before .before .before .before .before .before in
-    let table = s .args .table .now in
-    let l = c .before .before .before .before .loop in
-    let less : l .at < rowCount table = c .before .before .before .loop-test .taken in
-    let is = ap isLevel1 (sym (c .before .before .word .ensures)) ∙ sym (c .before .is-level1 .ensures) in
-    scan-miss table (l .at) less (is ∙ c .if1 .left) ∙ l .inv
+    let i = c .before in
+    let l = turn i in
+    scan-miss (table l) (l .before .loop .at) (l .loop-test .taken) (i .before .word .ensures) (i .is-level1 .ensures) (c .if1 .left) ∙ l .before .loop .inv
 
 returns-2 : tie.Need-returns-2 Inv-loop μ-loop
 returns-2 c = λ pool.

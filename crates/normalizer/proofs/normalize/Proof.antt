@@ -3,8 +3,7 @@
 use mathlib.Core.Path.{sym, _∙_}
 use lib.ListN.{length}
 use borrow.Author.Needs.{needs}
-use Rattle.rules.specs.Normalization.{normalized}
-use Rattle.normalizer.proofs.Whole.{check-refuses, refused-outcome}
+use Rattle.normalizer.proofs.Whole.{check-refuses}
 use Rattle.normalizer.proofs.normalize.Statement.{statement}
 use Rattle.normalizer.proofs.normalize.Tie as tie
 
@@ -40,14 +39,11 @@ same-length-4 c = search needs
 
 returns-2 : tie.Need-returns-2
 returns-2 c =
-    let s = c .before .before .before .before .before .before .before .before .before .before .before .before .before .before .before in
-    let table = s .args .table .now in
-    let pool = s .args .pool .now in
-    let out = s .args .out-table .now in
-    let size = length out in
-    let poolSize = length (s .args .out-pool .now) in
-    let r = c .before .before .before .before .refuse in
-    refused-outcome (normalized table pool size poolSize) size poolSize _ (check-refuses table pool size poolSize _ (sym (c .before .before .before .before .before .before .before .before .before .before .check .ensures) ∙ c .before .before .before .before .before .before .before .before .answer .given .1)) _ _ _ (r .ensures .0) (r .ensures .1 .0) (r .ensures .1 .1)
+    let k = c .before .before .before .before .before .before .before .before in
+    let checked = k .before .before in
+    let s = checked .before .before .before .before .before in
+    check-refuses (s .args .table .now) (s .args .pool .now) (length (s .args .out-table .now)) (length (s .args .out-pool .now))
+    (sym (checked .check .ensures) ∙ k .answer .given .1) (c .before .before .before .before .refuse .ensures)
 
 pub normalize-spec : {M : Type 1} → statement M
 normalize-spec =

@@ -4,10 +4,23 @@ use Prim.Native.Nat.{ℕ}
 use mathlib.Core.Path.{_∙_, ap}
 use lib.ListN.{length, replicate}
 use borrow.Author.Needs.{needs}
-use Rattle.rules.specs.Normalization.{normalized}
-use Rattle.normalizer.proofs.Whole.{too-many, too-many-at-once, outcome-ended, refused-outcome}
+use Rattle.normalizer.proofs.Whole.{Level2, too-many, too-many-at-once, outcome-ended}
 use Rattle.normalizer.proofs.normalize_level2.Statement.{statement}
 use Rattle.normalizer.proofs.normalize_level2.Tie as tie
+
+abbrev start : tie.After-row-limit → tie.Start
+start c = c .before .before .before .before .before
+
+abbrev limited : tie.After-normalize-into → tie.After-row-limit
+limited c = c .before .before .before .before
+
+given : (c : tie.After-row-limit) → Level2 (start c .args .table .now) (start c .args .pool .now) (length (start c .args .out-table .now)) (length (start c .args .out-pool .now)) (c .row-limit .result)
+given c =
+    record {
+      yes? = start c .pre .0;
+      level2 = start c .pre .1;
+      is = c .row-limit .ensures;
+    }
 
 row-limit-requires : tie.Need-row-limit-requires
 row-limit-requires c κs = search needs
@@ -23,15 +36,8 @@ same-length-2 c = search needs
 
 returns : tie.Need-returns
 returns c =
-    let s = c .before .before .before .before .before .before .before .before .before .before .before .before .before in
-    let table = s .args .table .now in
-    let pool = s .args .pool .now in
-    let out = s .args .out-table .now in
-    let size = length out in
-    let poolSize = length (s .args .out-pool .now) in
-    let limit = c .before .before .before .before .before .before .before .before .row-limit in
-    let r = c .before .before .before .before .refuse in
-    refused-outcome (normalized table pool size poolSize) size poolSize _ (too-many-at-once table pool size poolSize (s .pre .0) (s .pre .1) (limit .result) (limit .ensures) (c .before .before .before .before .before .before .before .if1 .taken)) _ _ _ (r .ensures .0) (r .ensures .1 .0) (r .ensures .1 .1)
+    let b = c .before .before .before .before .before .before .before in
+    too-many-at-once (given (b .before)) (b .if1 .taken) (c .before .before .before .before .refuse .ensures)
 
 slice-aggregate-normalize-into : tie.Need-slice-aggregate-normalize-into
 slice-aggregate-normalize-into c = search needs
@@ -50,24 +56,20 @@ same-length-4 c = search needs
 
 returns-2 : tie.Need-returns-2
 returns-2 c =
-    let s = c .before .before .before .before .before .before .before .before .before .before .before .before .before .before .before .before .before .before .before .before in
-    let table = s .args .table .now in
-    let pool = s .args .pool .now in
-    let out = s .args .out-table .now in
-    let size = length out in
-    let poolSize = length (s .args .out-pool .now) in
-    let limit = c .before .before .before .before .before .before .before .before .before .before .before .before .before .before .before .row-limit in
-    let made = c .before .before .before .before .before .before .before .before .before .before .before .normalize-into in
-    let r = c .before .before .before .before .refuse2 in
-    refused-outcome (normalized table pool size poolSize) size poolSize _ (too-many table pool size poolSize (s .pre .0) (s .pre .1) (limit .result) (limit .ensures) (made .ensures .full (c .before .before .before .before .before .before .before .if2 .taken))) _ _ _ (r .ensures .0) (r .ensures .1 .0 ∙ ap (λ (n : ℕ). replicate n 0) (made .kept .1 .1 .0)) (r .ensures .1 .1)
+    let b = c .before .before .before .before .before .before .before in
+    let m = b .before .before .before .before in
+    let q = c .before .before .before .before .refuse2 .ensures in
+    too-many (given (limited m)) (m .normalize-into .ensures .full (b .if2 .taken))
+    (q .0, (q .1 .0 ∙ ap (λ (n : ℕ). replicate n 0) (m .normalize-into .kept .1 .1 .0), q .1 .1))
 
 slice-aggregate-finish : tie.Need-slice-aggregate-finish
 slice-aggregate-finish c = search needs
 
 finish-requires : tie.Need-finish-requires
 finish-requires c κs =
-    let made = c .before .before .before .before .before .before .before .normalize-into in
-    (made .ensures .tableRoom (c .before .before .before .if2 .left), made .ensures .poolRoom (c .before .before .before .if2 .left))
+    let b = c .before .before .before in
+    let made = b .before .before .before .before .normalize-into .ensures in
+    (made .tableRoom (b .if2 .left), made .poolRoom (b .if2 .left))
 
 same-length-5 : tie.Need-same-length-5
 same-length-5 c = search needs
@@ -77,16 +79,9 @@ same-length-6 c = search needs
 
 returns-3 : tie.Need-returns-3
 returns-3 c =
-    let s = c .before .before .before .before .before .before .before .before .before .before .before .before .before .before .before .before .before .before .before .before .before in
-    let table = s .args .table .now in
-    let pool = s .args .pool .now in
-    let out = s .args .out-table .now in
-    let size = length out in
-    let poolSize = length (s .args .out-pool .now) in
-    let limit = c .before .before .before .before .before .before .before .before .before .before .before .before .before .before .before .before .row-limit in
-    let made = c .before .before .before .before .before .before .before .before .before .before .before .before .normalize-into in
-    let end = c .before .before .before .before .finish in
-    outcome-ended table pool size poolSize (s .pre .0) (s .pre .1) (limit .result) (limit .ensures) (made .last .1 .1 .0) (made .last .1 .1 .1 .0) (made .result .rows) (made .result .bytes) (made .ensures) (c .before .before .before .before .before .before .before .before .if2 .left) (made .kept .1 .1 .0) (end .result) (end .last .0) (end .last .1 .0) (end .ensures)
+    let b = c .before .before .before .before .before .before .before .before in
+    let m = b .before .before .before .before in
+    outcome-ended (given (limited m)) (m .normalize-into .ensures) (b .if2 .left) (m .normalize-into .kept .1 .1 .0) (c .before .before .before .before .finish .ensures)
 
 pub normalize-level2-spec : {M : Type 1} → statement M
 normalize-level2-spec =

@@ -1,14 +1,11 @@
 -- `normalizer::normalize_rows` meets its contract. The invariant: the buffers mean what the definition has made of the rows before.
 -- Assumes nothing.
-use Prim.Native.Nat.{_*_, _-_, _≤_, _<_, zero-le}
-use mathlib.Core.Path.{refl, _∙_}
+use Prim.Native.Nat.{_*_, _-_}
+use mathlib.Core.Path.{_∙_}
 use native.Mathlib.Omega.{arith}
-use lib.ListN.{take}
-use Rattle.rules.specs.Normalization.{normalizeRows}
-use Rattle.scope.proofs.Upwards.{upward-none}
 use Rattle.repair.specs.Working.{meant}
-use Rattle.repair.proofs.Steps.{count-part, counted, buffers-ready}
-use Rattle.normalizer.proofs.Rows.{row-count, row-within, Passing, pass-end, pass-full, pass-next}
+use Rattle.repair.proofs.Steps.{count-part}
+use Rattle.normalizer.proofs.Rows.{Passing, pass-start, pass-table, pass-small, link-asks, pass-end, pass-full, pass-next}
 use Rattle.normalizer.proofs.normalize_rows.Statement.{statement}
 use Rattle.normalizer.proofs.normalize_rows.Tie as tie
 
@@ -19,228 +16,96 @@ Inv-loop table₀ pool₀ first₀ next₀ last₀ up₀ attributes following li
 abbrev μ-loop : tie.MeasureT-loop
 μ-loop table₀ pool₀ first₀ next₀ last₀ up₀ attributes following limit total rows₀ bytes₀ r₀ table pool first next last up rows bytes r = total - r
 
+-- The places that the needs look back to: the start, the turn of the loop, the link set, the row normalized.
+abbrev start : tie.In-loop Inv-loop μ-loop → tie.Start Inv-loop μ-loop
+start c = c .before .before .before .before .before .before .before .before .before .before
+
+abbrev turn : tie.After-link-upward Inv-loop μ-loop → tie.In-loop Inv-loop μ-loop
+turn c = c .before .before .before .before .before .before
+
+abbrev linked : tie.After-normalize-row Inv-loop μ-loop → tie.After-link-upward Inv-loop μ-loop
+linked c = c .before .before .before .before .before .before .before .before .before
+
+abbrev made : tie.After-slice-known12 Inv-loop μ-loop → tie.After-normalize-row Inv-loop μ-loop
+made c = c .before .before .before .before .before .before .before .before .before .before
+
 loop-holds : tie.Need-loop-holds Inv-loop μ-loop
-unfolding normalizeRows
-loop-holds c =
-    let s = c .before .before .before .before .before .before .before .before in
-    let t₀ = s .args .table .now in
-    let p₀ = s .args .pool .now in
-    let up₀ = s .args .up .now in
-    let rows₀ = s .args .sizes .rows in
-    let bytes₀ = s .args .sizes .bytes in
-    let w₀ = s .pre .0 in
-    let s₀ = meant t₀ p₀ rows₀ bytes₀ in
-    record {
-      working = w₀;
-      state = refl;
-      upward = upward-none (s₀ .rows) up₀;
-      low = zero-le;
-      tableLength = refl;
-      poolLength = refl;
-      firstLength = refl;
-      nextLength = refl;
-      lastLength = refl;
-      upLength = refl;
-    }
+loop-holds c = pass-start (c .before .before .before .before .before .before .before .before .pre .0)
 
 cast-t18 : tie.Need-cast-t18 Inv-loop μ-loop
-cast-t18 c =
-    let s = c .before .before .before .before .before .before .before .before .before .before in
-    let total = s .args .total in
-    let limit = s .args .limit in
-    let t₀ = s .args .table .now in
-    let p₀ = s .args .pool .now in
-    let attributes = s .args .attributes .now in
-    let following = s .args .following .now in
-    let rows₀ = s .args .sizes .rows in
-    let bytes₀ = s .args .sizes .bytes in
-    let w₀ = s .pre .0 in
-    let s₀ = meant t₀ p₀ rows₀ bytes₀ in
-    let l = c .before .loop in
-    let w = l .inv .working in
-    let b = w .buffers in
-    let below = c .loop-test .taken in
-    let count = row-count total limit (l .r) (l .table) (l .pool) (l .first) (l .next) (l .last) attributes following (l .rows) (l .bytes) w below in
-    let few : total ≤ 1024 = omega (arith, w .steady .long, count, b .rowRoom, b .limitSmall) in
-    record { fits = omega arith }
+cast-t18 c = record { fits = omega (arith, pass-small (start c .pre .0) (c .before .loop .inv) (c .loop-test .taken)) }
 
 mul-link-upward : tie.Need-mul-link-upward Inv-loop μ-loop
 mul-link-upward c =
-    let s = c .before .before .before .before .before .before .before .before .before .before in
-    let t₀ = s .args .table .now in
-    let p₀ = s .args .pool .now in
-    let rows₀ = s .args .sizes .rows in
-    let bytes₀ = s .args .sizes .bytes in
-    let w₀ = s .pre .0 in
-    let s₀ = meant t₀ p₀ rows₀ bytes₀ in
-    let l = c .before .loop in
-    let w = l .inv .working in
-    let b = w .buffers in
+    let b = c .before .loop .inv .working .buffers in
     record { fits = omega (arith, b .rowRoom, b .limitSmall) }
 
 slice-reshare-prefix-link-upward : tie.Need-slice-reshare-prefix-link-upward Inv-loop μ-loop
-slice-reshare-prefix-link-upward c =
-    let s = c .before .before .before .before .before .before .before .before .before .before in
-    let t₀ = s .args .table .now in
-    let p₀ = s .args .pool .now in
-    let rows₀ = s .args .sizes .rows in
-    let bytes₀ = s .args .sizes .bytes in
-    let w₀ = s .pre .0 in
-    let s₀ = meant t₀ p₀ rows₀ bytes₀ in
-    let l = c .before .loop in
-    let w = l .inv .working in
-    let b = w .buffers in
-    omega (arith, b .rowRoom, b .tableRoom)
+slice-reshare-prefix-link-upward c = pass-table (start c .pre .0) (c .before .loop .inv)
 
 slice-aggregate-link-upward : tie.Need-slice-aggregate-link-upward Inv-loop μ-loop
 slice-aggregate-link-upward c =
-    let s = c .before .before .before .before .before .before .before .before .before .before .before in
-    let t₀ = s .args .table .now in
-    let p₀ = s .args .pool .now in
-    let rows₀ = s .args .sizes .rows in
-    let bytes₀ = s .args .sizes .bytes in
-    let w₀ = s .pre .0 in
-    let s₀ = meant t₀ p₀ rows₀ bytes₀ in
-    let l = c .before .before .loop in
-    let w = l .inv .working in
-    let b = w .buffers in
-    count-part (l .table) (10 * l .rows) (omega (arith, b .rowRoom, b .tableRoom))
+    let l = c .before in
+    count-part (l .before .loop .table) (10 * l .before .loop .rows) (pass-table (start l .pre .0) (l .before .loop .inv))
 
 slice-reshare-prefix-link-upward-2 : tie.Need-slice-reshare-prefix-link-upward-2 Inv-loop μ-loop
-slice-reshare-prefix-link-upward-2 c =
-    let l = c .before .before .loop in
-    let w = l .inv .working in
-    w .bytesRoom
+slice-reshare-prefix-link-upward-2 c = c .before .before .loop .inv .working .bytesRoom
 
 slice-aggregate-link-upward-2 : tie.Need-slice-aggregate-link-upward-2 Inv-loop μ-loop
 slice-aggregate-link-upward-2 c =
     let l = c .before .before .before .loop in
-    let w = l .inv .working in
-    count-part (l .pool) (l .bytes) (w .bytesRoom)
+    count-part (l .pool) (l .bytes) (l .inv .working .bytesRoom)
 
 link-upward-requires : tie.Need-link-upward-requires Inv-loop μ-loop
 link-upward-requires c κs =
-    let s = c .before .before .before .before .before .before .before .before .before .before .before .before .before .before .before in
-    let total = s .args .total in
-    let limit = s .args .limit in
-    let t₀ = s .args .table .now in
-    let p₀ = s .args .pool .now in
-    let attributes = s .args .attributes .now in
-    let following = s .args .following .now in
-    let rows₀ = s .args .sizes .rows in
-    let bytes₀ = s .args .sizes .bytes in
-    let w₀ = s .pre .0 in
-    let s₀ = meant t₀ p₀ rows₀ bytes₀ in
-    let l = c .before .before .before .before .before .before .loop in
-    let w = l .inv .working in
-    let b = w .buffers in
-    let below = c .before .before .before .before .before .loop-test .taken in
-    let count = row-count total limit (l .r) (l .table) (l .pool) (l .first) (l .next) (l .last) attributes following (l .rows) (l .bytes) w below in
-    let few : total ≤ 1024 = omega (arith, w .steady .long, count, b .rowRoom, b .limitSmall) in
-    let pool = take (l .bytes) (l .pool) in
-    (buffers-ready (l .table) pool (l .first) (l .next) (l .last) (l .rows) limit b, (rw (counted (l .table) pool (l .first) (l .next) (l .last) (l .rows) limit b) (row-within total limit (l .r) (l .table) (l .pool) (l .first) (l .next) (l .last) attributes following (l .rows) (l .bytes) w below), (l .inv .upward, omega (arith, few, l .inv .upLength, s .pre .1))))
+    let l = c .before .before .before .before .before in
+    link-asks (start l .pre .0) (l .before .loop .inv) (start l .pre .1) (l .loop-test .taken)
 
 normalize-row-requires : tie.Need-normalize-row-requires Inv-loop μ-loop
 normalize-row-requires c κs =
-    let l = c .before .before .before .before .before .before .before .before .before .before .before .before .before .before .before .loop in
-    let w = l .inv .working in
-    (w, (c .before .before .before .before .before .before .before .before .before .before .before .before .before .before .loop-test .taken, c .before .before .before .before .before .before .before .before .link-upward .ensures))
+    let u = c .before .before .before .before .before .before .before .before in
+    let l = turn u in
+    (l .before .loop .inv .working, (l .loop-test .taken, u .link-upward .ensures))
 
 same-length : tie.Need-same-length Inv-loop μ-loop
-same-length c = c .before .before .before .before .before .before .before .before .before .before .before .normalize-row .kept .0 ∙ c .before .before .before .before .before .before .before .before .before .before .before .before .before .before .before .before .before .before .before .before .before .before .before .before .before .before .before .loop .inv .tableLength
+same-length c = made (c .before) .normalize-row .kept .0 ∙ turn (linked (made (c .before))) .before .loop .inv .tableLength
 
 same-length-2 : tie.Need-same-length-2 Inv-loop μ-loop
-same-length-2 c = c .before .before .before .before .before .before .before .before .before .before .before .normalize-row .kept .1 .0 ∙ c .before .before .before .before .before .before .before .before .before .before .before .before .before .before .before .before .before .before .before .before .before .before .before .before .before .before .before .loop .inv .poolLength
+same-length-2 c = made (c .before) .normalize-row .kept .1 .0 ∙ turn (linked (made (c .before))) .before .loop .inv .poolLength
 
 same-length-3 : tie.Need-same-length-3 Inv-loop μ-loop
-same-length-3 c = c .before .before .before .before .before .before .before .before .before .before .before .normalize-row .kept .1 .1 .0 ∙ c .before .before .before .before .before .before .before .before .before .before .before .before .before .before .before .before .before .before .before .before .before .before .before .before .before .before .before .loop .inv .firstLength
+same-length-3 c = made (c .before) .normalize-row .kept .1 .1 .0 ∙ turn (linked (made (c .before))) .before .loop .inv .firstLength
 
 same-length-4 : tie.Need-same-length-4 Inv-loop μ-loop
-same-length-4 c = c .before .before .before .before .before .before .before .before .before .before .before .normalize-row .kept .1 .1 .1 .0 ∙ c .before .before .before .before .before .before .before .before .before .before .before .before .before .before .before .before .before .before .before .before .before .before .before .before .before .before .before .loop .inv .nextLength
+same-length-4 c = made (c .before) .normalize-row .kept .1 .1 .1 .0 ∙ turn (linked (made (c .before))) .before .loop .inv .nextLength
 
 same-length-5 : tie.Need-same-length-5 Inv-loop μ-loop
-same-length-5 c = c .before .before .before .before .before .before .before .before .before .before .before .normalize-row .kept .1 .1 .1 .1 .0 ∙ c .before .before .before .before .before .before .before .before .before .before .before .before .before .before .before .before .before .before .before .before .before .before .before .before .before .before .before .loop .inv .lastLength
+same-length-5 c = made (c .before) .normalize-row .kept .1 .1 .1 .1 .0 ∙ turn (linked (made (c .before))) .before .loop .inv .lastLength
 
 same-length-6 : tie.Need-same-length-6 Inv-loop μ-loop
-same-length-6 c = c .before .before .before .before .before .before .before .before .before .before .before .before .before .before .before .before .before .before .before .before .link-upward .kept .1 .1 .1 .1 .0 ∙ c .before .before .before .before .before .before .before .before .before .before .before .before .before .before .before .before .before .before .before .before .before .before .before .before .before .before .before .loop .inv .upLength
+same-length-6 c = linked (made (c .before)) .link-upward .kept .1 .1 .1 .1 .0 ∙ turn (linked (made (c .before))) .before .loop .inv .upLength
 
 returns : tie.Need-returns Inv-loop μ-loop
 returns c =
-    let s = c .before .before .before .before .before .before .before .before .before .before .before .before .before .before .before .before .before .before .before .before .before .before .before .before .before .before .before .before .before .before .before .before .before .before .before .before in
-    let total = s .args .total in
-    let limit = s .args .limit in
-    let t₀ = s .args .table .now in
-    let p₀ = s .args .pool .now in
-    let first₀ = s .args .first .now in
-    let next₀ = s .args .next .now in
-    let last₀ = s .args .last .now in
-    let up₀ = s .args .up .now in
-    let attributes = s .args .attributes .now in
-    let following = s .args .following .now in
-    let rows₀ = s .args .sizes .rows in
-    let bytes₀ = s .args .sizes .bytes in
-    let w₀ = s .pre .0 in
-    let s₀ = meant t₀ p₀ rows₀ bytes₀ in
-    let l = c .before .before .before .before .before .before .before .before .before .before .before .before .before .before .before .before .before .before .before .before .before .before .before .before .before .before .before .loop in
-    let made = c .before .before .before .before .before .before .before .before .before .before .before .normalize-row in
-    pass-full total limit t₀ p₀ first₀ next₀ last₀ up₀ attributes following s₀ (w₀ .steady) (l .table) (l .pool) (l .first) (l .next) (l .last) (l .up) (l .rows) (l .bytes) (l .r) (l .inv) (c .before .before .before .before .before .before .before .before .before .before .before .before .before .before .before .before .before .before .before .before .before .before .before .before .before .before .loop-test .taken) (made .last .0) (made .last .1 .0) (made .last .1 .1 .0) (made .last .1 .1 .1 .0) (made .last .1 .1 .1 .1 .0) (made .result .rows) (made .result .bytes) (made .ensures) (c .if1 .taken)
+    let l = turn (linked (made (c .before))) in
+    pass-full (start l .pre .0) (l .before .loop .inv) (l .loop-test .taken) (made (c .before) .normalize-row .ensures) (c .if1 .taken)
 
 add-r : tie.Need-add-r Inv-loop μ-loop
 add-r c =
-    let s = c .before .before .before .before .before .before .before .before .before .before .before .before .before .before .before .before .before .before .before .before .before .before .before .before .before .before .before .before .before .before .before .before .before .before .before .before in
-    let total = s .args .total in
-    let limit = s .args .limit in
-    let t₀ = s .args .table .now in
-    let p₀ = s .args .pool .now in
-    let attributes = s .args .attributes .now in
-    let following = s .args .following .now in
-    let rows₀ = s .args .sizes .rows in
-    let bytes₀ = s .args .sizes .bytes in
-    let w₀ = s .pre .0 in
-    let s₀ = meant t₀ p₀ rows₀ bytes₀ in
-    let l = c .before .before .before .before .before .before .before .before .before .before .before .before .before .before .before .before .before .before .before .before .before .before .before .before .before .before .before .loop in
-    let w = l .inv .working in
-    let b = w .buffers in
-    let below = c .before .before .before .before .before .before .before .before .before .before .before .before .before .before .before .before .before .before .before .before .before .before .before .before .before .before .loop-test .taken in
-    let count = row-count total limit (l .r) (l .table) (l .pool) (l .first) (l .next) (l .last) attributes following (l .rows) (l .bytes) w below in
-    let few : total ≤ 1024 = omega (arith, w .steady .long, count, b .rowRoom, b .limitSmall) in
-    record { fits = omega arith }
+    let l = turn (linked (made (c .before))) in
+    record { fits = omega (arith, pass-small (start l .pre .0) (l .before .loop .inv) (l .loop-test .taken)) }
 
 loop-less : tie.Need-loop-less Inv-loop μ-loop
-loop-less c =
-    let s = c .before .before .before .before .before .before .before .before .before .before .before .before .before .before .before .before .before .before .before .before .before .before .before .before .before .before .before .before .before .before .before .before .before .before .before .before in
-    let t₀ = s .args .table .now in
-    let p₀ = s .args .pool .now in
-    let rows₀ = s .args .sizes .rows in
-    let bytes₀ = s .args .sizes .bytes in
-    let w₀ = s .pre .0 in
-    let s₀ = meant t₀ p₀ rows₀ bytes₀ in
-    let l = c .before .before .before .before .before .before .before .before .before .before .before .before .before .before .before .before .before .before .before .before .before .before .before .before .before .before .before .loop in
-    let w = l .inv .working in
-    let b = w .buffers in
-    omega (arith, c .before .before .before .before .before .before .before .before .before .before .before .before .before .before .before .before .before .before .before .before .before .before .before .before .before .before .loop-test .taken)
+loop-less c = omega (arith, turn (linked (made (c .before))) .loop-test .taken)
 
 loop-again : tie.Need-loop-again Inv-loop μ-loop
 loop-again c =
-    let s = c .before .before .before .before .before .before .before .before .before .before .before .before .before .before .before .before .before .before .before .before .before .before .before .before .before .before .before .before .before .before .before .before .before .before .before .before in
-    let total = s .args .total in
-    let limit = s .args .limit in
-    let t₀ = s .args .table .now in
-    let p₀ = s .args .pool .now in
-    let first₀ = s .args .first .now in
-    let next₀ = s .args .next .now in
-    let last₀ = s .args .last .now in
-    let up₀ = s .args .up .now in
-    let attributes = s .args .attributes .now in
-    let following = s .args .following .now in
-    let rows₀ = s .args .sizes .rows in
-    let bytes₀ = s .args .sizes .bytes in
-    let w₀ = s .pre .0 in
-    let s₀ = meant t₀ p₀ rows₀ bytes₀ in
-    let l = c .before .before .before .before .before .before .before .before .before .before .before .before .before .before .before .before .before .before .before .before .before .before .before .before .before .before .before .loop in
-    let made = c .before .before .before .before .before .before .before .before .before .before .before .normalize-row in
-    let linked = c .before .before .before .before .before .before .before .before .before .before .before .before .before .before .before .before .before .before .before .before .link-upward in
-    pass-next total limit t₀ p₀ first₀ next₀ last₀ up₀ attributes following s₀ (w₀ .steady) (l .table) (l .pool) (l .first) (l .next) (l .last) (l .up) (l .rows) (l .bytes) (l .r) (l .inv) (c .before .before .before .before .before .before .before .before .before .before .before .before .before .before .before .before .before .before .before .before .before .before .before .before .before .before .loop-test .taken) (made .last .0) (made .last .1 .0) (made .last .1 .1 .0) (made .last .1 .1 .1 .0) (made .last .1 .1 .1 .1 .0) (made .result .rows) (made .result .bytes) (made .ensures) (c .if1 .left) (made .kept .0) (made .kept .1 .0) (made .kept .1 .1 .0) (made .kept .1 .1 .1 .0) (made .kept .1 .1 .1 .1 .0) (linked .last .1 .1 .1 .1 .0) (linked .kept .1 .1 .1 .1 .0) (linked .ensures)
+    let m = made (c .before) in
+    let u = linked m in
+    let l = turn u in
+    let kept = m .normalize-row .kept in
+    pass-next (start l .pre .0) (l .before .loop .inv) (l .loop-test .taken) (m .normalize-row .ensures) (c .if1 .left)
+    (kept .0) (kept .1 .0) (kept .1 .1 .0) (kept .1 .1 .1 .0) (kept .1 .1 .1 .1 .0) (u .link-upward .kept .1 .1 .1 .1 .0) (u .link-upward .ensures)
 
 same-length-7 : tie.Need-same-length-7 Inv-loop μ-loop
 same-length-7 c = c .before .loop .inv .tableLength
@@ -261,24 +126,7 @@ same-length-12 : tie.Need-same-length-12 Inv-loop μ-loop
 same-length-12 c = c .before .loop .inv .upLength
 
 returns-2 : tie.Need-returns-2 Inv-loop μ-loop
-returns-2 c =
-    let s = c .before .before .before .before .before .before .before .before .before .before in
-    let total = s .args .total in
-    let limit = s .args .limit in
-    let t₀ = s .args .table .now in
-    let p₀ = s .args .pool .now in
-    let first₀ = s .args .first .now in
-    let next₀ = s .args .next .now in
-    let last₀ = s .args .last .now in
-    let up₀ = s .args .up .now in
-    let attributes = s .args .attributes .now in
-    let following = s .args .following .now in
-    let rows₀ = s .args .sizes .rows in
-    let bytes₀ = s .args .sizes .bytes in
-    let w₀ = s .pre .0 in
-    let s₀ = meant t₀ p₀ rows₀ bytes₀ in
-    let l = c .before .loop in
-    pass-end total limit t₀ p₀ first₀ next₀ last₀ up₀ attributes following s₀ (w₀ .steady) (l .table) (l .pool) (l .first) (l .next) (l .last) (l .up) (l .rows) (l .bytes) (l .r) (l .inv) (c .loop-test .left)
+returns-2 c = pass-end (c .before .before .before .before .before .before .before .before .before .before .pre .0) (c .before .loop .inv) (c .loop-test .left)
 
 pub normalize-rows-spec : {M : Type 1} → statement M
 normalize-rows-spec =

@@ -1,18 +1,12 @@
 -- `normalizer::repair_attributes` meets its contract. The invariant: what is written is what the definition has made of the rows
 -- before the walk's next stop.
 -- Assumes nothing.
-use Prim.Native.Nat.{ℕ, _+_, _-_, _<_}
-use mathlib.Core.Path.{_≡_, sym, _∙_, subst}
-use mathlib.Core.Bool.{true}
+use Prim.Native.Nat.{_-_}
+use mathlib.Core.Path.{_∙_}
 use native.Mathlib.Omega.{arith}
-use lib.ListN.{length}
 use borrow.Author.Needs.{needs}
-use Rattle.rules.specs.Table.{node, isElement}
-use Rattle.scope.specs.Ready.{Upward}
-use Rattle.rules.specs.Normalization.{repairAttributes}
-use Rattle.repair.specs.Working.{meant, Written}
-use Rattle.normalizer.specs.Loops.{Working}
-use Rattle.normalizer.proofs.Attributes.{limits, Walking, walk-start, walk-end, walk-buffers, walk-room, walk-within, walk-types, walk-upward, walk-full, walk-next, walk-falls}
+use Rattle.repair.specs.Working.{meant}
+use Rattle.normalizer.proofs.Attributes.{Walking, element-small, row-small, walk-place, walk-following, walk-start, walk-end, walk-asks, walk-full, walk-next, walk-falls}
 use Rattle.normalizer.proofs.repair_attributes.Statement.{statement}
 use Rattle.normalizer.proofs.repair_attributes.Tie as tie
 
@@ -23,6 +17,19 @@ Inv-loop table₀ pool₀ first₀ next₀ last₀ up attributes following limit
 abbrev μ-loop : tie.MeasureT-loop
 μ-loop table₀ pool₀ first₀ next₀ last₀ up attributes following limit total e rows₀ bytes₀ r₀ table pool first next last rows bytes r = total - r
 
+-- The places that the needs look back to: the start, the element read as a place, the turn of the loop, the attribute repaired.
+abbrev start : tie.After-wide Inv-loop μ-loop → tie.Start Inv-loop μ-loop
+start c = c .before .before .before .before .before .before .before .before .before
+
+abbrev begun : tie.In-loop Inv-loop μ-loop → tie.After-wide Inv-loop μ-loop
+begun c = c .before .before .before .before
+
+abbrev turn : tie.After-repair-attribute-arg5 Inv-loop μ-loop → tie.In-loop Inv-loop μ-loop
+turn c = c .before .before .before .before .before
+
+abbrev repaired : tie.After-slice-known10 Inv-loop μ-loop → tie.After-repair-attribute Inv-loop μ-loop
+repaired c = c .before .before .before .before .before .before .before .before .before .before
+
 wide-requires : tie.Need-wide-requires Inv-loop μ-loop
 wide-requires c κs = search needs
 
@@ -30,265 +37,82 @@ mul-wide : tie.Need-mul-wide Inv-loop μ-loop
 mul-wide c = search needs
 
 shared-slice-read-wide : tie.Need-shared-slice-read-wide Inv-loop μ-loop
-shared-slice-read-wide c =
-    let s = c .before .before .before .before .before .before .before .before .before .before in
-    let wide = c .before .wide in
-    let e = wide .result in
-    let total = s .args .total in
-    let limit = s .args .limit in
-    let t₀ = s .args .table .now in
-    let p₀ = s .args .pool .now in
-    let first₀ = s .args .first .now in
-    let next₀ = s .args .next .now in
-    let last₀ = s .args .last .now in
-    let up = s .args .up .now in
-    let attributes = s .args .attributes .now in
-    let following = s .args .following .now in
-    let rows₀ = s .args .sizes .rows in
-    let bytes₀ = s .args .sizes .bytes in
-    let w = subst (Working total limit t₀ p₀ first₀ next₀ last₀ attributes following rows₀ bytes₀) (sym (wide .ensures)) (s .pre .0) in
-    let small : e < total = omega (arith, s .pre .1 .0 .0, wide .ensures) in
-    let element = subst (λ (i : ℕ). isElement (node (meant t₀ p₀ rows₀ bytes₀ .rows) i .type) ≡ true) (sym (wide .ensures)) (s .pre .1 .0 .1) in
-    let upward = subst (λ (i : ℕ). Upward (meant t₀ p₀ rows₀ bytes₀ .rows) up (i + 1)) (sym (wide .ensures)) (s .pre .1 .1) in
-    omega (arith, limits total limit e t₀ p₀ first₀ next₀ last₀ attributes following up rows₀ bytes₀ w small element upward, w .places)
+shared-slice-read-wide c = let u = c .before in walk-place (start u .pre) (u .wide .ensures)
 
 wide-requires-2 : tie.Need-wide-requires-2 Inv-loop μ-loop
 wide-requires-2 c κs = search needs
 
 loop-holds : tie.Need-loop-holds Inv-loop μ-loop
-loop-holds c =
-    let s = c .before .before .before .before .before .before .before .before .before .before .before in
-    let wide = c .before .before .wide in
-    let e = wide .result in
-    let total = s .args .total in
-    let limit = s .args .limit in
-    let t₀ = s .args .table .now in
-    let p₀ = s .args .pool .now in
-    let first₀ = s .args .first .now in
-    let next₀ = s .args .next .now in
-    let last₀ = s .args .last .now in
-    let up = s .args .up .now in
-    let attributes = s .args .attributes .now in
-    let following = s .args .following .now in
-    let rows₀ = s .args .sizes .rows in
-    let bytes₀ = s .args .sizes .bytes in
-    let w = subst (Working total limit t₀ p₀ first₀ next₀ last₀ attributes following rows₀ bytes₀) (sym (wide .ensures)) (s .pre .0) in
-    let small : e < total = omega (arith, s .pre .1 .0 .0, wide .ensures) in
-    let element = subst (λ (i : ℕ). isElement (node (meant t₀ p₀ rows₀ bytes₀ .rows) i .type) ≡ true) (sym (wide .ensures)) (s .pre .1 .0 .1) in
-    let upward = subst (λ (i : ℕ). Upward (meant t₀ p₀ rows₀ bytes₀ .rows) up (i + 1)) (sym (wide .ensures)) (s .pre .1 .1) in
-    walk-start total limit e t₀ p₀ first₀ next₀ last₀ attributes following up rows₀ bytes₀ w small element upward _ (c .wide2 .ensures)
+loop-holds c = let u = c .before .before in walk-start (start u .pre) (u .wide .ensures) (c .wide2 .ensures)
 
 cast-wide : tie.Need-cast-wide Inv-loop μ-loop
 cast-wide c =
-    let s = c .before .before .before .before .before .before .before .before .before .before .before .before .before .before .before .before .before .before in
-    let wide = c .before .before .before .before .before .before .before .before .before .wide in
-    let e = wide .result in
-    let total = s .args .total in
-    let limit = s .args .limit in
-    let t₀ = s .args .table .now in
-    let p₀ = s .args .pool .now in
-    let first₀ = s .args .first .now in
-    let next₀ = s .args .next .now in
-    let last₀ = s .args .last .now in
-    let up = s .args .up .now in
-    let attributes = s .args .attributes .now in
-    let following = s .args .following .now in
-    let rows₀ = s .args .sizes .rows in
-    let bytes₀ = s .args .sizes .bytes in
-    let w = subst (Working total limit t₀ p₀ first₀ next₀ last₀ attributes following rows₀ bytes₀) (sym (wide .ensures)) (s .pre .0) in
-    let small : e < total = omega (arith, s .pre .1 .0 .0, wide .ensures) in
-    let element = subst (λ (i : ℕ). isElement (node (meant t₀ p₀ rows₀ bytes₀ .rows) i .type) ≡ true) (sym (wide .ensures)) (s .pre .1 .0 .1) in
-    let upward = subst (λ (i : ℕ). Upward (meant t₀ p₀ rows₀ bytes₀ .rows) up (i + 1)) (sym (wide .ensures)) (s .pre .1 .1) in
-    record { fits = omega (arith, limits total limit e t₀ p₀ first₀ next₀ last₀ attributes following up rows₀ bytes₀ w small element upward) }
+    let u = begun (turn c) in
+    record { fits = omega (arith, element-small (start u .pre) (u .wide .ensures)) }
 
 cast-t34 : tie.Need-cast-t34 Inv-loop μ-loop
 cast-t34 c =
-    let s = c .before .before .before .before .before .before .before .before .before .before .before .before .before .before .before .before .before .before in
-    let wide = c .before .before .before .before .before .before .before .before .before .wide in
-    let e = wide .result in
-    let total = s .args .total in
-    let limit = s .args .limit in
-    let t₀ = s .args .table .now in
-    let p₀ = s .args .pool .now in
-    let first₀ = s .args .first .now in
-    let next₀ = s .args .next .now in
-    let last₀ = s .args .last .now in
-    let up = s .args .up .now in
-    let attributes = s .args .attributes .now in
-    let following = s .args .following .now in
-    let rows₀ = s .args .sizes .rows in
-    let bytes₀ = s .args .sizes .bytes in
-    let w = subst (Working total limit t₀ p₀ first₀ next₀ last₀ attributes following rows₀ bytes₀) (sym (wide .ensures)) (s .pre .0) in
-    let small : e < total = omega (arith, s .pre .1 .0 .0, wide .ensures) in
-    let element = subst (λ (i : ℕ). isElement (node (meant t₀ p₀ rows₀ bytes₀ .rows) i .type) ≡ true) (sym (wide .ensures)) (s .pre .1 .0 .1) in
-    let upward = subst (λ (i : ℕ). Upward (meant t₀ p₀ rows₀ bytes₀ .rows) up (i + 1)) (sym (wide .ensures)) (s .pre .1 .1) in
-    let l = c .before .before .before .before .before .before .loop in
-    record { fits = omega (arith, limits total limit e t₀ p₀ first₀ next₀ last₀ attributes following up rows₀ bytes₀ w small element upward, c .before .before .before .before .before .loop-test .taken) }
+    let l = turn c in
+    let u = begun l in
+    record { fits = omega (arith, row-small (start u .pre) (u .wide .ensures) (l .before .loop .inv) (l .loop-test .taken)) }
 
 repair-attribute-requires : tie.Need-repair-attribute-requires Inv-loop μ-loop
 repair-attribute-requires c κs =
-    let s = c .before .before .before .before .before .before .before .before .before .before .before .before .before .before .before .before .before .before in
-    let wide = c .before .before .before .before .before .before .before .before .before .wide in
-    let e = wide .result in
-    let total = s .args .total in
-    let limit = s .args .limit in
-    let t₀ = s .args .table .now in
-    let p₀ = s .args .pool .now in
-    let first₀ = s .args .first .now in
-    let next₀ = s .args .next .now in
-    let last₀ = s .args .last .now in
-    let up = s .args .up .now in
-    let attributes = s .args .attributes .now in
-    let following = s .args .following .now in
-    let rows₀ = s .args .sizes .rows in
-    let bytes₀ = s .args .sizes .bytes in
-    let w = subst (Working total limit t₀ p₀ first₀ next₀ last₀ attributes following rows₀ bytes₀) (sym (wide .ensures)) (s .pre .0) in
-    let small : e < total = omega (arith, s .pre .1 .0 .0, wide .ensures) in
-    let element = subst (λ (i : ℕ). isElement (node (meant t₀ p₀ rows₀ bytes₀ .rows) i .type) ≡ true) (sym (wide .ensures)) (s .pre .1 .0 .1) in
-    let upward = subst (λ (i : ℕ). Upward (meant t₀ p₀ rows₀ bytes₀ .rows) up (i + 1)) (sym (wide .ensures)) (s .pre .1 .1) in
-    let l = c .before .before .before .before .before .before .loop in
-    let taken = c .before .before .before .before .before .loop-test .taken in
-    (walk-buffers total limit e t₀ p₀ first₀ next₀ last₀ attributes following up rows₀ bytes₀ w small element upward (l .table) (l .pool) (l .first) (l .next) (l .last) (l .rows) (l .bytes) (l .r) (l .inv) taken, (walk-room total limit e t₀ p₀ first₀ next₀ last₀ attributes following up rows₀ bytes₀ w small element upward (l .table) (l .pool) (l .first) (l .next) (l .last) (l .rows) (l .bytes) (l .r) (l .inv) taken, (walk-within total limit e t₀ p₀ first₀ next₀ last₀ attributes following up rows₀ bytes₀ w small element upward (l .table) (l .pool) (l .first) (l .next) (l .last) (l .rows) (l .bytes) (l .r) (l .inv) taken, (walk-types total limit e t₀ p₀ first₀ next₀ last₀ attributes following up rows₀ bytes₀ w small element upward (l .table) (l .pool) (l .first) (l .next) (l .last) (l .rows) (l .bytes) (l .r) (l .inv) taken, walk-upward total limit e t₀ p₀ first₀ next₀ last₀ attributes following up rows₀ bytes₀ w small element upward (l .table) (l .pool) (l .first) (l .next) (l .last) (l .rows) (l .bytes) (l .r) (l .inv) taken))))
+    let l = turn c in
+    let u = begun l in
+    walk-asks (start u .pre) (u .wide .ensures) (l .before .loop .inv) (l .loop-test .taken)
 
 same-length : tie.Need-same-length Inv-loop μ-loop
-same-length c = c .before .before .before .before .before .before .before .before .before .before .before .repair-attribute .kept .0 ∙ c .before .before .before .before .before .before .before .before .before .before .before .before .before .before .before .before .before .before .loop .inv .tableLength
+same-length c = let m = repaired (c .before) in m .repair-attribute .kept .0 ∙ turn (m .before) .before .loop .inv .tableLength
 
 same-length-2 : tie.Need-same-length-2 Inv-loop μ-loop
-same-length-2 c = c .before .before .before .before .before .before .before .before .before .before .before .repair-attribute .kept .1 .0 ∙ c .before .before .before .before .before .before .before .before .before .before .before .before .before .before .before .before .before .before .loop .inv .poolLength
+same-length-2 c = let m = repaired (c .before) in m .repair-attribute .kept .1 .0 ∙ turn (m .before) .before .loop .inv .poolLength
 
 same-length-3 : tie.Need-same-length-3 Inv-loop μ-loop
-same-length-3 c = c .before .before .before .before .before .before .before .before .before .before .before .repair-attribute .kept .1 .1 .0 ∙ c .before .before .before .before .before .before .before .before .before .before .before .before .before .before .before .before .before .before .loop .inv .firstLength
+same-length-3 c = let m = repaired (c .before) in m .repair-attribute .kept .1 .1 .0 ∙ turn (m .before) .before .loop .inv .firstLength
 
 same-length-4 : tie.Need-same-length-4 Inv-loop μ-loop
-same-length-4 c = c .before .before .before .before .before .before .before .before .before .before .before .repair-attribute .kept .1 .1 .1 .0 ∙ c .before .before .before .before .before .before .before .before .before .before .before .before .before .before .before .before .before .before .loop .inv .nextLength
+same-length-4 c = let m = repaired (c .before) in m .repair-attribute .kept .1 .1 .1 .0 ∙ turn (m .before) .before .loop .inv .nextLength
 
 same-length-5 : tie.Need-same-length-5 Inv-loop μ-loop
-same-length-5 c = c .before .before .before .before .before .before .before .before .before .before .before .repair-attribute .kept .1 .1 .1 .1 .0 ∙ c .before .before .before .before .before .before .before .before .before .before .before .before .before .before .before .before .before .before .loop .inv .lastLength
+same-length-5 c = let m = repaired (c .before) in m .repair-attribute .kept .1 .1 .1 .1 .0 ∙ turn (m .before) .before .loop .inv .lastLength
 
 returns : tie.Need-returns Inv-loop μ-loop
 returns c =
-    let s = c .before .before .before .before .before .before .before .before .before .before .before .before .before .before .before .before .before .before .before .before .before .before .before .before .before .before .before .before .before .before in
-    let wide = c .before .before .before .before .before .before .before .before .before .before .before .before .before .before .before .before .before .before .before .before .before .wide in
-    let e = wide .result in
-    let total = s .args .total in
-    let limit = s .args .limit in
-    let t₀ = s .args .table .now in
-    let p₀ = s .args .pool .now in
-    let first₀ = s .args .first .now in
-    let next₀ = s .args .next .now in
-    let last₀ = s .args .last .now in
-    let up = s .args .up .now in
-    let attributes = s .args .attributes .now in
-    let following = s .args .following .now in
-    let rows₀ = s .args .sizes .rows in
-    let bytes₀ = s .args .sizes .bytes in
-    let w = subst (Working total limit t₀ p₀ first₀ next₀ last₀ attributes following rows₀ bytes₀) (sym (wide .ensures)) (s .pre .0) in
-    let small : e < total = omega (arith, s .pre .1 .0 .0, wide .ensures) in
-    let element = subst (λ (i : ℕ). isElement (node (meant t₀ p₀ rows₀ bytes₀ .rows) i .type) ≡ true) (sym (wide .ensures)) (s .pre .1 .0 .1) in
-    let upward = subst (λ (i : ℕ). Upward (meant t₀ p₀ rows₀ bytes₀ .rows) up (i + 1)) (sym (wide .ensures)) (s .pre .1 .1) in
-    let l = c .before .before .before .before .before .before .before .before .before .before .before .before .before .before .before .before .before .before .loop in
-    let made = c .before .before .before .before .before .before .before .before .before .before .before .repair-attribute in
-    subst (λ (i : ℕ). Written (made .last .0) (made .last .1 .0) (made .last .1 .1 .0) (made .last .1 .1 .1 .0) (made .last .1 .1 .1 .1 .0) limit (made .result .rows) (made .result .bytes) (repairAttributes i total (meant t₀ p₀ rows₀ bytes₀))) (wide .ensures)
-    (walk-full total limit e t₀ p₀ first₀ next₀ last₀ attributes following up rows₀ bytes₀ w small element upward (l .table) (l .pool) (l .first) (l .next) (l .last) (l .rows) (l .bytes) (l .r) (l .inv) (c .before .before .before .before .before .before .before .before .before .before .before .before .before .before .before .before .before .loop-test .taken) (made .last .0) (made .last .1 .0) (made .last .1 .1 .0) (made .last .1 .1 .1 .0) (made .last .1 .1 .1 .1 .0) (made .result .rows) (made .result .bytes) (made .ensures) (c .if1 .taken))
+    let m = repaired (c .before) in
+    let l = turn (m .before) in
+    let u = begun l in
+    walk-full (start u .pre) (u .wide .ensures) (l .before .loop .inv) (l .loop-test .taken) (m .repair-attribute .ensures) (c .if1 .taken)
 
 mul-wide-2 : tie.Need-mul-wide-2 Inv-loop μ-loop
 mul-wide-2 c =
-    let s = c .before .before .before .before .before .before .before .before .before .before .before .before .before .before .before .before .before .before .before .before .before .before .before .before .before .before .before .before .before .before in
-    let wide = c .before .before .before .before .before .before .before .before .before .before .before .before .before .before .before .before .before .before .before .before .before .wide in
-    let e = wide .result in
-    let total = s .args .total in
-    let limit = s .args .limit in
-    let t₀ = s .args .table .now in
-    let p₀ = s .args .pool .now in
-    let first₀ = s .args .first .now in
-    let next₀ = s .args .next .now in
-    let last₀ = s .args .last .now in
-    let up = s .args .up .now in
-    let attributes = s .args .attributes .now in
-    let following = s .args .following .now in
-    let rows₀ = s .args .sizes .rows in
-    let bytes₀ = s .args .sizes .bytes in
-    let w = subst (Working total limit t₀ p₀ first₀ next₀ last₀ attributes following rows₀ bytes₀) (sym (wide .ensures)) (s .pre .0) in
-    let small : e < total = omega (arith, s .pre .1 .0 .0, wide .ensures) in
-    let element = subst (λ (i : ℕ). isElement (node (meant t₀ p₀ rows₀ bytes₀ .rows) i .type) ≡ true) (sym (wide .ensures)) (s .pre .1 .0 .1) in
-    let upward = subst (λ (i : ℕ). Upward (meant t₀ p₀ rows₀ bytes₀ .rows) up (i + 1)) (sym (wide .ensures)) (s .pre .1 .1) in
-    let l = c .before .before .before .before .before .before .before .before .before .before .before .before .before .before .before .before .before .before .loop in
-    record { fits = omega (arith, limits total limit e t₀ p₀ first₀ next₀ last₀ attributes following up rows₀ bytes₀ w small element upward, c .before .before .before .before .before .before .before .before .before .before .before .before .before .before .before .before .before .loop-test .taken) }
+    let l = turn (repaired (c .before) .before) in
+    let u = begun l in
+    record { fits = omega (arith, row-small (start u .pre) (u .wide .ensures) (l .before .loop .inv) (l .loop-test .taken)) }
 
 shared-slice-read-wide-2 : tie.Need-shared-slice-read-wide-2 Inv-loop μ-loop
 shared-slice-read-wide-2 c =
-    let s = c .before .before .before .before .before .before .before .before .before .before .before .before .before .before .before .before .before .before .before .before .before .before .before .before .before .before .before .before .before .before .before in
-    let wide = c .before .before .before .before .before .before .before .before .before .before .before .before .before .before .before .before .before .before .before .before .before .before .wide in
-    let e = wide .result in
-    let total = s .args .total in
-    let limit = s .args .limit in
-    let t₀ = s .args .table .now in
-    let p₀ = s .args .pool .now in
-    let first₀ = s .args .first .now in
-    let next₀ = s .args .next .now in
-    let last₀ = s .args .last .now in
-    let up = s .args .up .now in
-    let attributes = s .args .attributes .now in
-    let following = s .args .following .now in
-    let rows₀ = s .args .sizes .rows in
-    let bytes₀ = s .args .sizes .bytes in
-    let w = subst (Working total limit t₀ p₀ first₀ next₀ last₀ attributes following rows₀ bytes₀) (sym (wide .ensures)) (s .pre .0) in
-    let small : e < total = omega (arith, s .pre .1 .0 .0, wide .ensures) in
-    let element = subst (λ (i : ℕ). isElement (node (meant t₀ p₀ rows₀ bytes₀ .rows) i .type) ≡ true) (sym (wide .ensures)) (s .pre .1 .0 .1) in
-    let upward = subst (λ (i : ℕ). Upward (meant t₀ p₀ rows₀ bytes₀ .rows) up (i + 1)) (sym (wide .ensures)) (s .pre .1 .1) in
-    omega (arith, w .links .room, c .before .before .before .before .before .before .before .before .before .before .before .before .before .before .before .before .before .before .loop-test .taken)
+    let l = turn (repaired (c .before .before) .before) in
+    let u = begun l in
+    walk-following (start u .pre) (u .wide .ensures) (l .before .loop .inv) (l .loop-test .taken)
 
 wide-requires-3 : tie.Need-wide-requires-3 Inv-loop μ-loop
 wide-requires-3 c κs = search needs
 
 loop-less : tie.Need-loop-less Inv-loop μ-loop
 loop-less c =
-    let s = c .before .before .before .before .before .before .before .before .before .before .before .before .before .before .before .before .before .before .before .before .before .before .before .before .before .before .before .before .before .before .before .before in
-    let wide = c .before .before .before .before .before .before .before .before .before .before .before .before .before .before .before .before .before .before .before .before .before .before .before .wide in
-    let e = wide .result in
-    let total = s .args .total in
-    let limit = s .args .limit in
-    let t₀ = s .args .table .now in
-    let p₀ = s .args .pool .now in
-    let first₀ = s .args .first .now in
-    let next₀ = s .args .next .now in
-    let last₀ = s .args .last .now in
-    let up = s .args .up .now in
-    let attributes = s .args .attributes .now in
-    let following = s .args .following .now in
-    let rows₀ = s .args .sizes .rows in
-    let bytes₀ = s .args .sizes .bytes in
-    let w = subst (Working total limit t₀ p₀ first₀ next₀ last₀ attributes following rows₀ bytes₀) (sym (wide .ensures)) (s .pre .0) in
-    let small : e < total = omega (arith, s .pre .1 .0 .0, wide .ensures) in
-    let element = subst (λ (i : ℕ). isElement (node (meant t₀ p₀ rows₀ bytes₀ .rows) i .type) ≡ true) (sym (wide .ensures)) (s .pre .1 .0 .1) in
-    let upward = subst (λ (i : ℕ). Upward (meant t₀ p₀ rows₀ bytes₀ .rows) up (i + 1)) (sym (wide .ensures)) (s .pre .1 .1) in
-    let l = c .before .before .before .before .before .before .before .before .before .before .before .before .before .before .before .before .before .before .before .before .loop in
-    omega (arith, walk-falls total limit e t₀ p₀ first₀ next₀ last₀ attributes following up rows₀ bytes₀ w small element upward (l .table) (l .pool) (l .first) (l .next) (l .last) (l .rows) (l .bytes) (l .r) (l .inv) (c .before .before .before .before .before .before .before .before .before .before .before .before .before .before .before .before .before .before .before .loop-test .taken) _ (c .wide3 .ensures), c .before .before .before .before .before .before .before .before .before .before .before .before .before .before .before .before .before .before .before .loop-test .taken)
+    let l = turn (repaired (c .before .before .before) .before) in
+    let u = begun l in
+    omega (arith, walk-falls (start u .pre) (u .wide .ensures) (l .before .loop .inv) (l .loop-test .taken) (c .wide3 .ensures), l .loop-test .taken)
 
 loop-again : tie.Need-loop-again Inv-loop μ-loop
 loop-again c =
-    let s = c .before .before .before .before .before .before .before .before .before .before .before .before .before .before .before .before .before .before .before .before .before .before .before .before .before .before .before .before .before .before .before .before in
-    let wide = c .before .before .before .before .before .before .before .before .before .before .before .before .before .before .before .before .before .before .before .before .before .before .before .wide in
-    let e = wide .result in
-    let total = s .args .total in
-    let limit = s .args .limit in
-    let t₀ = s .args .table .now in
-    let p₀ = s .args .pool .now in
-    let first₀ = s .args .first .now in
-    let next₀ = s .args .next .now in
-    let last₀ = s .args .last .now in
-    let up = s .args .up .now in
-    let attributes = s .args .attributes .now in
-    let following = s .args .following .now in
-    let rows₀ = s .args .sizes .rows in
-    let bytes₀ = s .args .sizes .bytes in
-    let w = subst (Working total limit t₀ p₀ first₀ next₀ last₀ attributes following rows₀ bytes₀) (sym (wide .ensures)) (s .pre .0) in
-    let small : e < total = omega (arith, s .pre .1 .0 .0, wide .ensures) in
-    let element = subst (λ (i : ℕ). isElement (node (meant t₀ p₀ rows₀ bytes₀ .rows) i .type) ≡ true) (sym (wide .ensures)) (s .pre .1 .0 .1) in
-    let upward = subst (λ (i : ℕ). Upward (meant t₀ p₀ rows₀ bytes₀ .rows) up (i + 1)) (sym (wide .ensures)) (s .pre .1 .1) in
-    let l = c .before .before .before .before .before .before .before .before .before .before .before .before .before .before .before .before .before .before .before .before .loop in
-    let made = c .before .before .before .before .before .before .before .before .before .before .before .before .before .repair-attribute in
-    walk-next total limit e t₀ p₀ first₀ next₀ last₀ attributes following up rows₀ bytes₀ w small element upward (l .table) (l .pool) (l .first) (l .next) (l .last) (l .rows) (l .bytes) (l .r) (l .inv) (c .before .before .before .before .before .before .before .before .before .before .before .before .before .before .before .before .before .before .before .loop-test .taken) (made .last .0) (made .last .1 .0) (made .last .1 .1 .0) (made .last .1 .1 .1 .0) (made .last .1 .1 .1 .1 .0) (made .result .rows) (made .result .bytes) (made .ensures) (c .before .before .if1 .left) (made .kept .0) (made .kept .1 .0) (made .kept .1 .1 .0) (made .kept .1 .1 .1 .0) (made .kept .1 .1 .1 .1 .0) _ (c .wide3 .ensures)
+    let m = repaired (c .before .before .before) in
+    let l = turn (m .before) in
+    let u = begun l in
+    let kept = m .repair-attribute .kept in
+    walk-next (start u .pre) (u .wide .ensures) (l .before .loop .inv) (l .loop-test .taken) (m .repair-attribute .ensures) (c .before .before .if1 .left)
+    (kept .0) (kept .1 .0) (kept .1 .1 .0) (kept .1 .1 .1 .0) (kept .1 .1 .1 .1 .0) (c .wide3 .ensures)
 
 same-length-6 : tie.Need-same-length-6 Inv-loop μ-loop
 same-length-6 c = c .before .loop .inv .tableLength
@@ -307,28 +131,8 @@ same-length-10 c = c .before .loop .inv .lastLength
 
 returns-2 : tie.Need-returns-2 Inv-loop μ-loop
 returns-2 c =
-    let s = c .before .before .before .before .before .before .before .before .before .before .before .before .before in
-    let wide = c .before .before .before .before .wide in
-    let e = wide .result in
-    let total = s .args .total in
-    let limit = s .args .limit in
-    let t₀ = s .args .table .now in
-    let p₀ = s .args .pool .now in
-    let first₀ = s .args .first .now in
-    let next₀ = s .args .next .now in
-    let last₀ = s .args .last .now in
-    let up = s .args .up .now in
-    let attributes = s .args .attributes .now in
-    let following = s .args .following .now in
-    let rows₀ = s .args .sizes .rows in
-    let bytes₀ = s .args .sizes .bytes in
-    let w = subst (Working total limit t₀ p₀ first₀ next₀ last₀ attributes following rows₀ bytes₀) (sym (wide .ensures)) (s .pre .0) in
-    let small : e < total = omega (arith, s .pre .1 .0 .0, wide .ensures) in
-    let element = subst (λ (i : ℕ). isElement (node (meant t₀ p₀ rows₀ bytes₀ .rows) i .type) ≡ true) (sym (wide .ensures)) (s .pre .1 .0 .1) in
-    let upward = subst (λ (i : ℕ). Upward (meant t₀ p₀ rows₀ bytes₀ .rows) up (i + 1)) (sym (wide .ensures)) (s .pre .1 .1) in
-    let l = c .before .loop in
-    subst (λ (i : ℕ). Written (l .table) (l .pool) (l .first) (l .next) (l .last) limit (l .rows) (l .bytes) (repairAttributes i total (meant t₀ p₀ rows₀ bytes₀))) (wide .ensures)
-    (walk-end total limit e t₀ p₀ first₀ next₀ last₀ attributes following up rows₀ bytes₀ w small element upward (l .table) (l .pool) (l .first) (l .next) (l .last) (l .rows) (l .bytes) (l .r) (l .inv) (c .loop-test .left))
+    let u = c .before .before .before .before in
+    walk-end (start u .pre) (u .wide .ensures) (c .before .loop .inv) (c .loop-test .left)
 
 pub repair-attributes-spec : {M : Type 1} → statement M
 repair-attributes-spec =
