@@ -1,22 +1,24 @@
 -- What acceptance by the check gives: no caller opens the definition of the check.
 -- Assumes nothing.
-use Prim.Native.Nat.{ℕ, zero, suc, _+_, _%_, _≤_, _<_}
+use Prim.Native.Nat.{ℕ, _+_, _*_, _%_, _≤_, _<_}
+use native.Mathlib.Omega.{arith}
 use mathlib.Core.Path.{_≡_, refl, sym, _∙_, ap, subst}
 use mathlib.Core.Logic.{_⊎_, inl, inr}
-use mathlib.Core.Bool.{Bool, true, false, cond, _&&_, _||_, not}
-use mathlib.Core.List.{List, [], _∷_}
-use mathlib.Core.Option.{Option, none, some, Option·none-ne-some}
-use native.Mathlib.Nat.{le-of-suc-le-suc, not-suc-le-zero, zero-add}
-use lib.ListN.{length, getD, take}
-use lib.Dec.{eqb, ltb, leb}
+use mathlib.Core.Bool.{true, false, _&&_, _||_, not}
+use mathlib.Core.List.{List, [], _∷_, _++_}
+use mathlib.Core.Option.{Option, none, some}
+use lib.ListN.{length, take, drop, length-drop}
+use lib.Seq.{length-take-le}
+use lib.Dec.{eqb, ltb}
 use borrow.Author.Tests.{eqb-true, eq-eqb, ltb-true, ltb-false}
-use Rattle.rules.specs.Lists.{firstThat, anyOf, numbersFrom, isOneOf, isEmpty, sameBytes}
-use Rattle.rules.specs.Table.{NONE, xmlUri, xmlnsUri, xmlPrefix, xmlnsPrefix, Field, noField, Node, nodes, node, rowCount, isElement, isLevel1, ParentRule, allowedParents}
-use Rattle.rules.specs.Refusals.{badSize, parentRule, parentAllowed, secondElement, badStructure, badField, fullButMustBeEmpty, badFields, goodName, badNames, badNamespace, badDeclaration, isDouble, rowRefusal, refusedOr, checkRows, checked}
+use Rattle.rules.specs.Lists.{anyOf, isOneOf, isEmpty, sameBytes}
+use Rattle.rules.specs.Table.{WIDTH, MOST-ROWS, MOST-BYTES, NONE, ELEMENT, ATTRIBUTE, DECLARATION, LEVEL1-ELEMENT, LEVEL1-ATTRIBUTE, xmlUri, xmlnsUri, xmlPrefix, xmlnsPrefix, part, Field, noField, Node, nodes, node, rowCount, isElement, ParentRule}
+use Rattle.rules.specs.Refusals.{badSize, parentRule, parentAllowed, secondElement, badStructure, badField, fullButMustBeEmpty, badFields, badNames, badNamespace, badDeclaration, isDouble, refusedIf, faults, conflicts, rowRefusal, lowestRefusal, checkRefusal, checked}
 use Rattle.rules.specs.declared.Refusal.{Refusal}
 use Rattle.rules.specs.declared.Checked.{Checked}
-use Rattle.rules.proofs.Lists.{by-cases, both-true, both-false, right-false, true-both, not-true, not-false, true-not-false, empty-equal, length-numbersFrom, getD-numbersFrom}
-use Rattle.rules.proofs.Table.{length-nodes}
+use Rattle.rules.proofs.Lists.{by-cases, both-true, both-false, right-false, true-both, not-false, true-not-false, empty-equal}
+use Rattle.rules.proofs.Table.{length-nodes, node-nodes}
+use Rattle.rules.proofs.Refusals.{not-refused, all-none, verdict-accepted, lowest-none}
 
 -- Row r draws none of the refusals 2 to 7.
 pub record RowAccepted (ns : List Node) (poolLength r : ℕ) : Type 0 where
@@ -27,67 +29,67 @@ pub record RowAccepted (ns : List Node) (poolLength r : ℕ) : Type 0 where
   pub declaration : badDeclaration (node ns r) ≡ false
   pub double : anyOf (isDouble (node ns r)) (take r ns) ≡ false
 
--- The check accepts the table.
-pub record Accepted (table pool : List ℕ) : Type 0 where
-  pub whole : length table % 10 ≡ 0
-  pub tableBound : length table ≤ 10240
-  pub poolBound : length pool ≤ 32768
-  pub row : (r : ℕ) → r < length (nodes table pool) → RowAccepted (nodes table pool) (length pool) r
-
-cond-none : {A : Type 0} (b : Bool) (x : A) (rest : Option A) → cond b (some x) rest ≡ none → (b ≡ false) × (rest ≡ none)
-cond-none true x rest e = absurd (Option·none-ne-some x (sym e))
-cond-none false x rest e = (refl, e)
-
 pub row-accepted : (ns : List Node) (poolLength r : ℕ) → rowRefusal ns poolLength r ≡ none → RowAccepted ns poolLength r
-unfolding rowRefusal
+unfolding rowRefusal faults conflicts
 row-accepted ns poolLength r e =
-    let a = cond-none (badStructure ns r) _ _ e in
-    let b = cond-none (badFields poolLength (node ns r)) _ _ (a .1) in
-    let c = cond-none (badNames (node ns r)) _ _ (b .1) in
-    let d = cond-none (badNamespace (node ns r)) _ _ (c .1) in
-    let f = cond-none (badDeclaration (node ns r)) _ _ (d .1) in
-    let g = cond-none (anyOf (isDouble (node ns r)) (take r ns)) _ _ (f .1) in
-    record { structure = a .0; fields = b .0; names = c .0; namespace = d .0; declaration = f .0; double = g .0 }
-
-refused-or-accepted : (o : Option Refusal) (later : Checked) → refusedOr o later ≡ Checked.Accepted → (o ≡ none) × (later ≡ Checked.Accepted)
-refused-or-accepted none later e = (refl, e)
-refused-or-accepted (some x) later e = (cc, cc)
-
-rows-accepted : (ns : List Node) (poolLength : ℕ) (rs : List ℕ) → checkRows ns poolLength rs ≡ Checked.Accepted → (k : ℕ) → k < length rs → rowRefusal ns poolLength (getD rs k 0) ≡ none
-unfolding checkRows
-rows-accepted ns poolLength [] e k h = absurd (not-suc-le-zero h)
-rows-accepted ns poolLength (r ∷ rs) e zero h = refused-or-accepted (rowRefusal ns poolLength r) (checkRows ns poolLength rs) e .0
-rows-accepted ns poolLength (r ∷ rs) e (suc k) h =
-    rows-accepted ns poolLength rs (refused-or-accepted (rowRefusal ns poolLength r) (checkRows ns poolLength rs) e .1) k (le-of-suc-le-suc h)
-
-cond-accepted : (b : Bool) (x : Refusal) (rest : Checked) → cond b (Checked.Refused x) rest ≡ Checked.Accepted → (b ≡ false) × (rest ≡ Checked.Accepted)
-cond-accepted true x rest e = (cc, cc)
-cond-accepted false x rest e = (refl, e)
-
-pub accepted : (table pool : List ℕ) → checked table pool ≡ Checked.Accepted → Accepted table pool
-unfolding checked badSize
-accepted table pool e =
-    let a = cond-accepted (badSize table pool) _ _ e in
-    let s = both-false (not (eqb (length table % 10) 0) || ltb 10240 (length table)) (ltb 32768 (length pool)) (a .0) in
-    let w = both-false (not (eqb (length table % 10) 0)) (ltb 10240 (length table)) (s .0) in
+    let a = all-none (faults ns poolLength r ++ conflicts ns r) e in
     record {
-      whole = eqb-true (length table % 10) 0 (not-false (eqb (length table % 10) 0) (w .0));
-      tableBound = ltb-false 10240 (length table) (w .1);
-      poolBound = ltb-false 32768 (length pool) (s .1);
-      row = λ r h.
-          row-accepted (nodes table pool) (length pool) r
-          (subst (λ (i : ℕ). rowRefusal (nodes table pool) (length pool) i ≡ none)
-          (getD-numbersFrom 0 (length (nodes table pool)) r 0 h ∙ zero-add r)
-          (rows-accepted (nodes table pool) (length pool) (numbersFrom 0 (length (nodes table pool))) (a .1) r
-          (rw length-numbersFrom h)));
+      structure = not-refused _ _ (a .0);
+      fields = not-refused _ _ (a .1 .0);
+      names = not-refused _ _ (a .1 .1 .0);
+      namespace = not-refused _ _ (a .1 .1 .1 .0);
+      declaration = not-refused _ _ (a .1 .1 .1 .1 .0);
+      double = not-refused _ _ (a .1 .1 .1 .1 .1 .0);
     }
 
--- The parent of an accepted row is NONE or an earlier row whose type its rule allows.
-pub parent-allowed : (ns : List Node) (poolLength r : ℕ) → RowAccepted ns poolLength r → parentAllowed ns r (node ns r .parent) (parentRule (node ns r .type)) ≡ true
+-- What is not refused for its size.
+pub record Sized (table pool : List ℕ) : Type 0 where
+  pub whole : length table % WIDTH ≡ 0
+  pub tableBound : length table ≤ WIDTH * MOST-ROWS
+  pub poolBound : length pool ≤ MOST-BYTES
+
+pub sized : (table pool : List ℕ) → badSize table pool ≡ false → Sized table pool
+unfolding badSize
+sized table pool e =
+    let s = both-false (not (eqb (length table % WIDTH) 0) || ltb (WIDTH * MOST-ROWS) (length table)) (ltb MOST-BYTES (length pool)) e in
+    let w = both-false (not (eqb (length table % WIDTH) 0)) (ltb (WIDTH * MOST-ROWS) (length table)) (s .0) in
+    record {
+      whole = eqb-true (length table % WIDTH) 0 (not-false (eqb (length table % WIDTH) 0) (w .0));
+      tableBound = ltb-false (WIDTH * MOST-ROWS) (length table) (w .1);
+      poolBound = ltb-false MOST-BYTES (length pool) (s .1);
+    }
+
+pub few-rows : (table pool : List ℕ) → Sized table pool → rowCount table ≤ MOST-ROWS
+few-rows table pool s = let b = s .tableBound in omega arith
+
+-- The check accepts the table.
+pub record Accepted (table pool : List ℕ) : Type 0 where
+  pub size : Sized table pool
+  pub row : (r : ℕ) → r < length (nodes table pool) → RowAccepted (nodes table pool) (length pool) r
+
+pub unrefused : (table pool : List ℕ) → checkRefusal table pool ≡ none → Accepted table pool
+unfolding checkRefusal
+unrefused table pool e =
+    let row = rowRefusal (nodes table pool) (length pool) in
+    let a = all-none (refusedIf (badSize table pool) Refusal.Size ∷ lowestRefusal row (rowCount table) ∷ []) e in
+    record {
+      size = sized table pool (not-refused (badSize table pool) Refusal.Size (a .0));
+      row = λ r h. row-accepted (nodes table pool) (length pool) r (lowest-none row (rowCount table) (a .1 .0) r (rw length-nodes at h));
+    }
+
+pub accepted : (table pool : List ℕ) → checked table pool ≡ Checked.Accepted → Accepted table pool
+unfolding checked
+accepted table pool e = unrefused table pool (verdict-accepted (checkRefusal table pool) e)
+
+-- The parent of a row that is not refused for its structure is NONE or an earlier row whose type its rule allows.
+structure-allowed : (ns : List Node) (r : ℕ) → badStructure ns r ≡ false → parentAllowed ns r (node ns r .parent) (parentRule (node ns r .type)) ≡ true
 unfolding badStructure
-parent-allowed ns poolLength r a =
+structure-allowed ns r e =
     not-false (parentAllowed ns r (node ns r .parent) (parentRule (node ns r .type)))
-    (both-false (not (parentAllowed ns r (node ns r .parent) (parentRule (node ns r .type)))) (secondElement ns r) (a .structure) .0)
+    (both-false (not (parentAllowed ns r (node ns r .parent) (parentRule (node ns r .type)))) (secondElement ns r) e .0)
+
+pub parent-allowed : (ns : List Node) (poolLength r : ℕ) → RowAccepted ns poolLength r → parentAllowed ns r (node ns r .parent) (parentRule (node ns r .type)) ≡ true
+parent-allowed ns poolLength r a = structure-allowed ns r (a .structure)
 
 allowed-falls : (ns : List Node) (r parent : ℕ) (rule : Option ParentRule) → parentAllowed ns r parent rule ≡ true → (parent ≡ NONE) ⊎ (parent < r)
 unfolding parentAllowed
@@ -98,26 +100,29 @@ allowed-falls ns r parent (some rule) e =
     (λ q. inr (ltb-true parent r (both-true (ltb parent r) (isOneOf (rule .parents) (node ns parent .type)) (rw q at e) .0)))
 
 -- Parents fall.
+pub structure-falls : (ns : List Node) (r : ℕ) → badStructure ns r ≡ false → (node ns r .parent ≡ NONE) ⊎ (node ns r .parent < r)
+structure-falls ns r e =
+    allowed-falls ns r (node ns r .parent) (parentRule (node ns r .type)) (structure-allowed ns r e)
+
 pub parent-falls : (ns : List Node) (poolLength r : ℕ) → RowAccepted ns poolLength r → (node ns r .parent ≡ NONE) ⊎ (node ns r .parent < r)
-parent-falls ns poolLength r a =
-    allowed-falls ns r (node ns r .parent) (parentRule (node ns r .type)) (parent-allowed ns poolLength r a)
+parent-falls ns poolLength r a = structure-falls ns r (a .structure)
 
 -- The types of rows that have an owner, and that the owner is an element.
-owned-rule : (type : ℕ) → isOneOf (2 ∷ 13 ∷ 258 ∷ []) type ≡ true → (rule : ParentRule) × (parentRule type ≡ some rule) × (rule .parents ≡ 1 ∷ 257 ∷ [])
+owned-rule : (type : ℕ) → isOneOf (ATTRIBUTE ∷ DECLARATION ∷ LEVEL1-ATTRIBUTE ∷ []) type ≡ true → (rule : ParentRule) × (parentRule type ≡ some rule) × (rule .parents ≡ ELEMENT ∷ LEVEL1-ELEMENT ∷ [])
 unfolding parentRule
 owned-rule type e =
-    by-cases (eqb type 2)
-    (λ q. rw (eqb-true type 2 q) (record { type = 2; alone = true; parents = 1 ∷ 257 ∷ [] }, refl, refl))
+    by-cases (eqb type ATTRIBUTE)
+    (λ q. rw (eqb-true type ATTRIBUTE q) (record { type = ATTRIBUTE; alone = true; parents = ELEMENT ∷ LEVEL1-ELEMENT ∷ [] }, refl, refl))
     (λ p.
-    by-cases (eqb type 13)
-    (λ q. rw (eqb-true type 13 q) (record { type = 13; alone = false; parents = 1 ∷ 257 ∷ [] }, refl, refl))
+    by-cases (eqb type DECLARATION)
+    (λ q. rw (eqb-true type DECLARATION q) (record { type = DECLARATION; alone = false; parents = ELEMENT ∷ LEVEL1-ELEMENT ∷ [] }, refl, refl))
     (λ q.
-    by-cases (eqb type 258)
-    (λ s. rw (eqb-true type 258 s) (record { type = 258; alone = true; parents = 1 ∷ 257 ∷ [] }, refl, refl))
-    (λ s. let f : isOneOf (2 ∷ 13 ∷ 258 ∷ []) type ≡ false = rw (p, q, s) refl in absurd (true-not-false e f))))
+    by-cases (eqb type LEVEL1-ATTRIBUTE)
+    (λ s. rw (eqb-true type LEVEL1-ATTRIBUTE s) (record { type = LEVEL1-ATTRIBUTE; alone = true; parents = ELEMENT ∷ LEVEL1-ELEMENT ∷ [] }, refl, refl))
+    (λ s. let f : isOneOf (ATTRIBUTE ∷ DECLARATION ∷ LEVEL1-ATTRIBUTE ∷ []) type ≡ false = rw (p, q, s) refl in absurd (true-not-false e f))))
 
 -- Owners are elements, and earlier rows.
-pub owner-element : (ns : List Node) (poolLength r : ℕ) → RowAccepted ns poolLength r → isOneOf (2 ∷ 13 ∷ 258 ∷ []) (node ns r .type) ≡ true → (node ns r .parent ≡ NONE → ⊥) → (node ns r .parent < r) × (isElement (node ns (node ns r .parent) .type) ≡ true)
+pub owner-element : (ns : List Node) (poolLength r : ℕ) → RowAccepted ns poolLength r → isOneOf (ATTRIBUTE ∷ DECLARATION ∷ LEVEL1-ATTRIBUTE ∷ []) (node ns r .type) ≡ true → (node ns r .parent ≡ NONE → ⊥) → (node ns r .parent < r) × (isElement (node ns (node ns r .parent) .type) ≡ true)
 unfolding parentAllowed
 owner-element ns poolLength r a t h =
     let rule = owned-rule (node ns r .type) t in
@@ -130,7 +135,7 @@ owner-element ns poolLength r a t h =
     (ltb-true (node ns r .parent) r (both .0), subst (λ (ps : List ℕ). isOneOf ps (node ns (node ns r .parent) .type) ≡ true) (rule .2) (both .1)))
 
 -- A declaration has an owner.
-pub declaration-owned : (ns : List Node) (poolLength r : ℕ) → RowAccepted ns poolLength r → node ns r .type ≡ 13 → (node ns r .parent ≡ NONE → ⊥)
+pub declaration-owned : (ns : List Node) (poolLength r : ℕ) → RowAccepted ns poolLength r → node ns r .type ≡ DECLARATION → (node ns r .parent ≡ NONE → ⊥)
 unfolding parentAllowed parentRule
 declaration-owned ns poolLength r a t n =
     let e = parent-allowed ns poolLength r a in
@@ -176,6 +181,17 @@ fields-accepted ns poolLength r a =
       value = field-accepted poolLength (n .value) (v .0);
     }
 
+-- A field of an accepted table that has no bytes.
+field-none : (pool : List ℕ) (f : Field) → FieldAccepted (length pool) f → f .bytes ≡ part pool (f .offset) (f .size) → isEmpty (f .bytes) ≡ true → f ≡ noField
+field-none pool f within read bare =
+    let empty : f .bytes ≡ [] = empty-equal (f .bytes) bare in
+    let size : f .size ≡ 0 =
+    sym (length-take-le (f .size) (drop (f .offset) pool) (rw length-drop (omega (arith, within .inPool)))) ∙ ap length (sym read ∙ empty) in
+    let offset = within .noOffset size in
+    ap (λ (o : ℕ). record { offset = o; size = f .size; bytes = f .bytes }) offset
+    ∙ ap (λ (k : ℕ). record { offset = 0; size = k; bytes = f .bytes }) size
+    ∙ ap (λ (b : List ℕ). record { offset = 0; size = 0; bytes = b }) empty
+
 -- What refusal 5 leaves of an element or attribute.
 pub record NamespaceAccepted (n : Node) : Type 0 where
   -- a prefix goes with a URI
@@ -184,7 +200,7 @@ pub record NamespaceAccepted (n : Node) : Type 0 where
   pub notXmlns : sameBytes (n .prefix .bytes) xmlnsPrefix ≡ false
   pub xmlMeansXml : sameBytes (n .prefix .bytes) xmlPrefix ≡ true → sameBytes (n .uri .bytes) xmlUri ≡ true
 
-pub namespace-accepted : (ns : List Node) (poolLength r : ℕ) → RowAccepted ns poolLength r → isOneOf (1 ∷ 2 ∷ []) (node ns r .type) ≡ true → NamespaceAccepted (node ns r)
+pub namespace-accepted : (ns : List Node) (poolLength r : ℕ) → RowAccepted ns poolLength r → isOneOf (ELEMENT ∷ ATTRIBUTE ∷ []) (node ns r .type) ≡ true → NamespaceAccepted (node ns r)
 unfolding badNamespace
 namespace-accepted ns poolLength r a t =
     let n = node ns r in
@@ -200,8 +216,24 @@ namespace-accepted ns poolLength r a t =
       xmlMeansXml = λ x. by-cases (sameBytes (n .uri .bytes) xmlUri) (λ q. q) (λ q. absurd (true-not-false (true-both x (ap not q)) (e₄ .1)));
     }
 
+-- An element without a URI has no prefix, and both fields are those of none.
+pub record Plain (n : Node) : Type 0 where
+  pub prefix : isEmpty (n .uri .bytes) ≡ true → n .prefix ≡ noField
+  pub uri : isEmpty (n .uri .bytes) ≡ true → n .uri ≡ noField
+
+pub plain-accepted : (table pool : List ℕ) (a : Accepted table pool) (e : ℕ) → e < length (nodes table pool) → node (nodes table pool) e .type ≡ ELEMENT → Plain (node (nodes table pool) e)
+plain-accepted table pool a e i t =
+    let n = node (nodes table pool) e in
+    let fields = fields-accepted (nodes table pool) (length pool) e (a .row e i) in
+    let read = node-nodes table pool e (subst (λ (count : ℕ). e < count) (length-nodes table pool) i) in
+    record {
+      prefix = λ bare.
+          field-none pool (n .prefix) (fields .prefix) (rw read refl) (namespace-accepted (nodes table pool) (length pool) e (a .row e i) (rw t refl) .prefixHasUri bare);
+      uri = λ bare. field-none pool (n .uri) (fields .uri) (rw read refl) bare;
+    }
+
 -- A declaration of a non-empty prefix has a value.
-pub declaration-valued : (ns : List Node) (poolLength r : ℕ) → RowAccepted ns poolLength r → node ns r .type ≡ 13 → isEmpty (node ns r .local .bytes) ≡ false → isEmpty (node ns r .value .bytes) ≡ false
+pub declaration-valued : (ns : List Node) (poolLength r : ℕ) → RowAccepted ns poolLength r → node ns r .type ≡ DECLARATION → isEmpty (node ns r .local .bytes) ≡ false → isEmpty (node ns r .value .bytes) ≡ false
 unfolding badDeclaration
 declaration-valued ns poolLength r a t l =
     let n = node ns r in
@@ -210,6 +242,6 @@ declaration-valued ns poolLength r a t l =
     (sameBytes (n .local .bytes) xmlnsPrefix || (sameBytes (n .local .bytes) xmlPrefix && not (sameBytes (n .value .bytes) xmlUri))
     || (not (sameBytes (n .local .bytes) xmlPrefix) && sameBytes (n .value .bytes) xmlUri) || sameBytes (n .value .bytes) xmlnsUri)
     (not (isEmpty (n .local .bytes)) && isEmpty (n .value .bytes))
-    (right-false _ _ (a .declaration) (eq-eqb (n .type) 13 t))
+    (right-false _ _ (a .declaration) (eq-eqb (n .type) DECLARATION t))
     in
     by-cases (isEmpty (n .value .bytes)) (λ q. absurd (true-not-false (true-both (ap not l) q) (f .1))) (λ q. q)

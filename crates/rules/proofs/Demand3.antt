@@ -1,67 +1,71 @@
 -- Demand 3, of the outcome that the definitions fix.
 -- Assumes nothing.
-use Prim.Native.Nat.{ℕ, zero, suc, _+_, _≤_, _<_}
+use Prim.Native.Nat.{ℕ, zero, suc, _≤_, _<_}
 use mathlib.Core.Path.{_≡_, refl, sym, _∙_, ap, subst}
 use mathlib.Core.Logic.{_⊎_, inl, inr}
-use mathlib.Core.Bool.{Bool, true, false, cond, _&&_, _||_, not}
+use mathlib.Core.Bool.{Bool, true, false, _&&_, _||_, not}
 use mathlib.Core.List.{List, [], _∷_, map}
 use mathlib.Core.Option.{none}
-use native.Mathlib.Nat.{le-refl, le-trans, le-of-lt, lt-of-le-of-lt, lt-of-lt-of-le, lt-trans, not-suc-le-zero, zero-add}
+use native.Mathlib.Nat.{le-refl, le-trans, le-of-lt, lt-of-le-of-lt, lt-trans, not-suc-le-zero}
 use native.Mathlib.Omega.{arith}
-use lib.ListN.{length, getD, drop}
+use lib.ListN.{length, getD}
 use lib.Seq.{drop-length}
-use lib.Dec.{T, eqb, ltb}
+use lib.Dec.{eqb, ltb}
 use borrow.Author.Tests.{eqb-true, eq-eqb, ltb-true, lt-ltb}
-use Rattle.rules.specs.Lists.{allOf, numbersFrom, isOneOf, isEmpty, sameBytes}
-use Rattle.rules.specs.Table.{NONE, Field, Node, noNode, nodes, node, isElement, isLevel1}
+use Rattle.rules.specs.Lists.{isOneOf, isEmpty, sameBytes}
+use Rattle.rules.specs.Table.{MOST-ROWS, NONE, ELEMENT, ATTRIBUTE, DECLARATION, LEVEL1-ELEMENT, Field, Node, noNode, nodes, node, isElement, isLevel1}
 use Rattle.rules.specs.Lookups.{isDeclarationOf, ownDeclarations, scopeAt, inScopeUri, uriBytes}
-use Rattle.rules.specs.Normalization.{State, normalizeRows, normalForm, level1Row, normalized, success}
-use Rattle.rules.specs.Demands.{succeeded, resultRows, elementMeans, attributeMeans, means, isBound, KeepsMeaning, Meaning, fieldBytes, Agree, upFrom, selfAndAncestors, concerns, AgreeAt, addedDeclarations, ResultsAgreeAt, Independence}
-use Rattle.rules.proofs.Lists.{by-cases, both-true, true-both, either-left, either-right, T-true, true-T, true-not-false, not-true, equal-sameBytes, allOf-every, filtered-alike, firstThat-none-getD, length-numbersFrom, getD-numbersFrom}
-use Rattle.rules.proofs.Accepted.{RowAccepted, Accepted, accepted, parent-falls, owner-element, namespace-accepted, NamespaceAccepted, declaration-valued}
-use Rattle.rules.proofs.Scope.{SameCore, core-refl}
-use Rattle.rules.proofs.Repairs.{isLegal, InScopeAs}
-use Rattle.rules.proofs.Meaning.{isSound, ElementMeans, AttributeMeans, Normal, rows-normal}
+use Rattle.rules.specs.Normalization.{normalizeRows, normalForm, level1Refusal, normalized}
+use Rattle.rules.specs.Demands.{resultRows, elementMeansIn, elementMeans, attributeMeansIn, attributeMeans, means, isBound, Meaning, fieldBytes, Agree, upFrom, selfAndAncestors, concerns, AgreeAt, addedDeclarations, ResultsAgreeAt, Independence}
+use Rattle.rules.proofs.Lists.{by-cases, both-true, true-both, either-left, either-right, T-true, true-T, true-not-false, not-true, equal-sameBytes, allOf-every, filtered-alike}
+use Rattle.rules.specs.Refusals.{refusedIf}
+use Rattle.rules.specs.declared.Refusal.{Refusal}
+use Rattle.rules.proofs.Refusals.{not-refused, lowest-none}
+use Rattle.rules.proofs.Accepted.{Accepted, unrefused, few-rows, parent-falls, owner-element, namespace-accepted, NamespaceAccepted, declaration-valued}
+use Rattle.rules.proofs.Scope.{core-refl}
+use Rattle.rules.proofs.Meaning.{isSound, AttributeMeans, Normal, rows-normal}
 use Rattle.rules.proofs.Forgotten.{forget}
 use Rattle.rules.proofs.Independence.{Closed, Alike, Both, rows-alike}
 use Rattle.rules.proofs.Table.{length-nodes}
-use Rattle.rules.proofs.Result.{Pool, pool-rows, success-rows, Succeeds, succeeds, input-pool}
+use Rattle.rules.proofs.Result.{pool-rows, success-rows, Succeeds, succeeds, input-pool}
 
 -- What is known of an accepted table without Level 1 rows.
-module _ (table pool : List ℕ) (a : Accepted table pool) (level2 : level1Row (nodes table pool) ≡ none) where
+module _ (table pool : List ℕ) (a : Accepted table pool) (level2 : level1Refusal (nodes table pool) ≡ none) where
   abbrev base : List Node
   base = nodes table pool
 
-  element-type : (r : ℕ) → r < length base → isElement (node base r .type) ≡ true → node base r .type ≡ 1
-  unfolding level1Row
+  element-type : (r : ℕ) → r < length base → isElement (node base r .type) ≡ true → node base r .type ≡ ELEMENT
+  unfolding level1Refusal
   element-type r i e =
-      let f = firstThat-none-getD (λ (x : ℕ). isLevel1 (node base x .type)) (numbersFrom 0 (length base)) 0 r level2 (rw length-numbersFrom i) in
-      let g : isLevel1 (node base r .type) ≡ false = subst (λ (x : ℕ). isLevel1 (node base x .type) ≡ false) (getD-numbersFrom 0 (length base) r 0 i ∙ zero-add r) f in
-      by-cases (eqb (node base r .type) 1)
-      (λ q. eqb-true (node base r .type) 1 q)
+      let g : isLevel1 (node base r .type) ≡ false =
+      not-refused (isLevel1 (node base r .type)) (Refusal.Level1 (record { 0 = r }))
+      (lowest-none (λ x. refusedIf (isLevel1 (node base x .type)) (Refusal.Level1 (record { 0 = x }))) (length base) level2 r i)
+      in
+      by-cases (eqb (node base r .type) ELEMENT)
+      (λ q. eqb-true (node base r .type) ELEMENT q)
       (λ q.
-      by-cases (eqb (node base r .type) 257)
+      by-cases (eqb (node base r .type) LEVEL1-ELEMENT)
       (λ s. let y : isLevel1 (node base r .type) ≡ true = rw s refl in absurd (true-not-false y g))
       (λ s. let y : isElement (node base r .type) ≡ false = rw (q, s) refl in absurd (true-not-false e y)))
 
-  element-named : (r : ℕ) → r < length base → node base r .type ≡ 1 → NamespaceAccepted (node base r)
+  element-named : (r : ℕ) → r < length base → node base r .type ≡ ELEMENT → NamespaceAccepted (node base r)
   element-named r i t = namespace-accepted base (length pool) r (a .row r i) (rw t refl)
 
   row-sound : (r : ℕ) → r < length base → isSound (node base r) ≡ true
   unfolding isSound
   row-sound r i =
-      by-cases (eqb (node base r .type) 13)
+      by-cases (eqb (node base r .type) DECLARATION)
       (λ q.
       rw q
       (by-cases (isEmpty (node base r .local .bytes))
       (λ l. rw l refl)
-      (λ l. rw (l, declaration-valued base (length pool) r (a .row r i) (eqb-true (node base r .type) 13 q) l) refl)))
+      (λ l. rw (l, declaration-valued base (length pool) r (a .row r i) (eqb-true (node base r .type) DECLARATION q) l) refl)))
       (λ q.
-      by-cases (eqb (node base r .type) 2)
+      by-cases (eqb (node base r .type) ATTRIBUTE)
       (λ t.
       rw (q, t)
       (by-cases (isEmpty (node base r .uri .bytes))
-      (λ u. let n = namespace-accepted base (length pool) r (a .row r i) (rw (eqb-true (node base r .type) 2 t) refl) in rw (u, n .prefixHasUri u) refl)
+      (λ u. let n = namespace-accepted base (length pool) r (a .row r i) (rw (eqb-true (node base r .type) ATTRIBUTE t) refl) in rw (u, n .prefixHasUri u) refl)
       (λ u. rw u refl)))
       (λ t. rw (q, t) refl))
 
@@ -81,12 +85,12 @@ module _ (table pool : List ℕ) (a : Accepted table pool) (level2 : level1Row (
   unfolding normalForm
   normal = rows-normal base element-named (length base) (record { rows = base; pool = pool }) (le-refl (length base)) start-normal
 
-  element-case : (r : ℕ) → r < length base → node base r .type ≡ 1 → means (normalForm base pool .rows) r ≡ true
-  unfolding means elementMeans
+  element-case : (r : ℕ) → r < length base → node base r .type ≡ ELEMENT → means (normalForm base pool .rows) r ≡ true
+  unfolding means elementMeans elementMeansIn
   element-case r i t = rw (eq-eqb _ 1 (normal .core r i .type ∙ t)) (equal-sameBytes (normal .elements r i t))
 
-  attribute-case : (r : ℕ) → r < length base → node base r .type ≡ 2 → (node base r .parent ≡ NONE → ⊥) → means (normalForm base pool .rows) r ≡ true
-  unfolding means attributeMeans
+  attribute-case : (r : ℕ) → r < length base → node base r .type ≡ ATTRIBUTE → (node base r .parent ≡ NONE → ⊥) → means (normalForm base pool .rows) r ≡ true
+  unfolding means attributeMeans attributeMeansIn
   attribute-case r i t o =
       let owner = owner-element base (length pool) r (a .row r i) (rw t refl) o in
       let small : node base r .parent < length base = lt-trans (owner .0) i in
@@ -101,25 +105,25 @@ module _ (table pool : List ℕ) (a : Accepted table pool) (level2 : level1Row (
   bound-case : (r : ℕ) → r < length base → isBound (node base r) ≡ true → means (normalForm base pool .rows) r ≡ true
   unfolding isBound
   bound-case r i b =
-      by-cases (eqb (node base r .type) 1)
-      (λ q. element-case r i (eqb-true (node base r .type) 1 q))
+      by-cases (eqb (node base r .type) ELEMENT)
+      (λ q. element-case r i (eqb-true (node base r .type) ELEMENT q))
       (λ q.
-      let h = both-true (eqb (node base r .type) 2) (not (eqb (node base r .parent) NONE)) (rw q at b) in
-      attribute-case r i (eqb-true (node base r .type) 2 (h .0)) (λ z. true-not-false (eq-eqb (node base r .parent) NONE z) (not-true (eqb (node base r .parent) NONE) (h .1))))
+      let h = both-true (eqb (node base r .type) ATTRIBUTE) (not (eqb (node base r .parent) NONE)) (rw q at b) in
+      attribute-case r i (eqb-true (node base r .type) ATTRIBUTE (h .0)) (λ z. true-not-false (eq-eqb (node base r .parent) NONE z) (not-true (eqb (node base r .parent) NONE) (h .1))))
 
 -- The rows that the outcome's buffers hold are those of the finished result.
 pub result-is : (table pool : List ℕ) (tableSize poolSize : ℕ) → Succeeds table pool tableSize poolSize → resultRows (normalized table pool tableSize poolSize) ≡ normalForm (nodes table pool) pool .rows
 unfolding normalForm
 result-is table pool tableSize poolSize s =
     let ns = nodes table pool in
-    let in-pool = pool-rows (length ns) (length ns) (record { rows = ns; pool = pool }) (le-refl (length ns)) (record { long = le-refl (length ns); fit = input-pool table pool (accepted table pool (s .accepted)) }) in
+    let in-pool = pool-rows (length ns) (length ns) (record { rows = ns; pool = pool }) (le-refl (length ns)) (record { long = le-refl (length ns); fit = input-pool table pool (unrefused table pool (s .accepted)) }) in
     ap resultRows (s .outcome) ∙ success-rows tableSize poolSize (normalForm ns pool) (in-pool .fit)
 
 -- Demand 3, first part.
 pub meaning : Meaning
 meaning table pool tableSize poolSize t r i b =
     let s = succeeds table pool tableSize poolSize t in
-    let a = accepted table pool (s .accepted) in
+    let a = unrefused table pool (s .accepted) in
     let c = normal table pool a (s .level2) .core r i in
     rw (result-is table pool tableSize poolSize s)
     (record {
@@ -213,8 +217,8 @@ module _ (table pool table′ pool′ : List ℕ) (a : Accepted table pool) (a�
   path : ℕ → Bool
   path x = isOneOf (selfAndAncestors ns e) x
 
-  few-rows : length ns ≤ 1024
-  few-rows = rw (length-nodes table pool) (omega (arith, a .tableBound))
+  few : length ns ≤ MOST-ROWS
+  few = rw (length-nodes table pool) (few-rows table pool (a .size))
 
   inside : (x : ℕ) → path x ≡ true → x < length ns
   unfolding path selfAndAncestors
@@ -236,11 +240,11 @@ module _ (table pool table′ pool′ : List ℕ) (a : Accepted table pool) (a�
   unfolding selfAndAncestors
   same-path = up-same (λ (x : ℕ). path x ≡ true) ns ms parents (λ x p. sym (on-path x p .parent)) (suc e) e first
 
-  owners : (x : ℕ) → path x ≡ true → isOneOf (2 ∷ 13 ∷ []) (node ns x .type) ≡ true → node ns x .parent < length ns → path (node ns x .parent) ≡ true
+  owners : (x : ℕ) → path x ≡ true → isOneOf (ATTRIBUTE ∷ DECLARATION ∷ []) (node ns x .type) ≡ true → node ns x .parent < length ns → path (node ns x .parent) ≡ true
   owners x p t i = go (parent-falls ns (length pool) x (a .row x (inside x p)))
     where
       go : (node ns x .parent ≡ NONE) ⊎ (node ns x .parent < x) → path (node ns x .parent) ≡ true
-      go (inl z) = absurd (omega (arith, few-rows))
+      go (inl z) = absurd (omega (arith, few))
       go (inr less) = parents x p less
 
   closed-ns : Closed (length ns) path ns
@@ -257,13 +261,13 @@ module _ (table pool table′ pool′ : List ℕ) (a : Accepted table pool) (a�
             (owners x p (rw (on-path x p .type) t) (rw (on-path x p .parent) i));
       }
 
-  owned-agrees : (r : ℕ) → r < length ns → isOneOf (2 ∷ 13 ∷ []) (node ns r .type) ≡ true → path (node ns r .parent) ≡ true → forget (node ns r) ≡ forget (node ms r)
+  owned-agrees : (r : ℕ) → r < length ns → isOneOf (ATTRIBUTE ∷ DECLARATION ∷ []) (node ns r .type) ≡ true → path (node ns r .parent) ≡ true → forget (node ns r) ≡ forget (node ms r)
   unfolding path concerns
   owned-agrees r i t p =
       agree-forget (node ns r) (node ms r)
       (agree .rows r i (true-T (either-left (concerns ms e r) (either-right (isOneOf (selfAndAncestors ns e) r) (true-both t p)))))
 
-  owned-agrees′ : (r : ℕ) → r < length ns → isOneOf (2 ∷ 13 ∷ []) (node ms r .type) ≡ true → path (node ms r .parent) ≡ true → forget (node ns r) ≡ forget (node ms r)
+  owned-agrees′ : (r : ℕ) → r < length ns → isOneOf (ATTRIBUTE ∷ DECLARATION ∷ []) (node ms r .type) ≡ true → path (node ms r .parent) ≡ true → forget (node ns r) ≡ forget (node ms r)
   unfolding path concerns
   owned-agrees′ r i t p =
       agree-forget (node ns r) (node ms r)
@@ -284,13 +288,13 @@ module _ (table pool table′ pool′ : List ℕ) (a : Accepted table pool) (a�
     where
       yes-case : isDeclarationOf x (node ns i) ≡ true → forget (node ns i) ≡ forget (node ms i)
       yes-case q =
-          let t = both-true (eqb (node ns i .type) 13) (eqb (node ns i .parent) x) q in
-          owned-agrees i h (rw (eqb-true (node ns i .type) 13 (t .0)) refl) (rw (eqb-true (node ns i .parent) x (t .1)) p)
+          let t = both-true (eqb (node ns i .type) DECLARATION) (eqb (node ns i .parent) x) q in
+          owned-agrees i h (rw (eqb-true (node ns i .type) DECLARATION (t .0)) refl) (rw (eqb-true (node ns i .parent) x (t .1)) p)
 
       other-case : isDeclarationOf x (node ms i) ≡ true → forget (node ns i) ≡ forget (node ms i)
       other-case q =
-          let t = both-true (eqb (node ms i .type) 13) (eqb (node ms i .parent) x) q in
-          owned-agrees′ i h (rw (eqb-true (node ms i .type) 13 (t .0)) refl) (rw (eqb-true (node ms i .parent) x (t .1)) p)
+          let t = both-true (eqb (node ms i .type) DECLARATION) (eqb (node ms i .parent) x) q in
+          owned-agrees′ i h (rw (eqb-true (node ms i .type) DECLARATION (t .0)) refl) (rw (eqb-true (node ms i .parent) x (t .1)) p)
 
   alike : Alike (length ns) path ns ms
   unfolding ownDeclarations addedDeclarations node
@@ -310,14 +314,14 @@ module _ (table pool table′ pool′ : List ℕ) (a : Accepted table pool) (a�
       (rows-alike (length ns) path (length ns) (record { rows = ns; pool = pool }) (record { rows = ms; pool = pool′ }) (le-refl (length ns))
       (record { closed = closed-ns; closed′ = closed-ms; alike = alike }))
 
-  module _ (level2 : level1Row (nodes table pool) ≡ none) where
+  module _ (level2 : level1Refusal (nodes table pool) ≡ none) where
     row-agrees : (r : ℕ) → r < length ns → concerns ns e r ≡ true → Agree (node (normalForm ns pool .rows) r) (node (normalForm ms pool′ .rows) r)
     unfolding concerns path
     row-agrees r i q =
         by-cases (isOneOf (selfAndAncestors ns e) r)
         (λ p. forget-agree _ _ (both-rows .alike .rows r p))
         (λ p.
-        let t = both-true (isOneOf (2 ∷ 13 ∷ []) (node ns r .type)) (isOneOf (selfAndAncestors ns e) (node ns r .parent)) (rw p at q) in
+        let t = both-true (isOneOf (ATTRIBUTE ∷ DECLARATION ∷ []) (node ns r .type)) (isOneOf (selfAndAncestors ns e) (node ns r .parent)) (rw p at q) in
         let c = normal table pool a level2 .core r i in
         forget-agree _ _ (both-rows .alike .owned r i (rw (c .type) (t .0), rw (c .parent) (t .1))))
 
@@ -338,4 +342,4 @@ independence table pool tableSize poolSize table′ pool′ tableSize′ poolSiz
     let s = succeeds table pool tableSize poolSize t in
     let s′ = succeeds table′ pool′ tableSize′ poolSize′ t′ in
     rw (result-is table pool tableSize poolSize s, result-is table′ pool′ tableSize′ poolSize′ s′)
-    (results-agree table pool table′ pool′ (accepted table pool (s .accepted)) (accepted table′ pool′ (s′ .accepted)) e within agree (s .level2))
+    (results-agree table pool table′ pool′ (unrefused table pool (s .accepted)) (unrefused table′ pool′ (s′ .accepted)) e within agree (s .level2))

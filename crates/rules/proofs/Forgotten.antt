@@ -1,16 +1,15 @@
 -- Lookups and repairs read bytes only: they commute with forgetting where the bytes stand.
 -- Assumes nothing.
 use Prim.Native.Nat.{ℕ, zero, suc}
-use mathlib.Core.Path.{_≡_, refl, sym, _∙_, ap}
-use mathlib.Core.Bool.{Bool, true, false, cond, _&&_, _||_, not}
-use mathlib.Core.List.{List, [], _∷_, _++_, map}
+use mathlib.Core.Path.{_≡_, refl, _∙_, ap}
+use mathlib.Core.Bool.{Bool, _&&_, not}
+use mathlib.Core.List.{List, [], _∷_, map}
 use mathlib.Core.Option.{Option, none, some}
 use lib.ListN.{length, length-map}
-use lib.Dec.{eqb}
-use Rattle.rules.specs.Lists.{firstThat, filtered, anyOf, gathered, isEmpty, sameBytes}
+use Rattle.rules.specs.Lists.{firstThat, anyOf, isEmpty, sameBytes}
 use Rattle.rules.specs.Table.{xmlUri, xmlnsUri, xmlPrefix, xmlnsPrefix, Field, Node}
-use Rattle.rules.specs.Lookups.{declares, unlessEmpty, Binding, declared, builtInXml, builtInXmlns, unbound, orUnbound, valueOf, inScopeUri, uriBytes, serves, prefixOf, inScopePrefix}
-use Rattle.rules.specs.Normalization.{isOwnDeclaration, revalued, newDeclaration, numberedPrefix, leastFree, Repair, keep, takeDeclared, takeBuiltIn, declareOwn, makeNumbered, repairByDeclaring, repairBy, repairOf, newPrefix, newRows}
+use Rattle.rules.specs.Lookups.{declares, Binding, declared, builtInXml, builtInXmlns, unbound, orUnbound, valueOf, inScopeUri, uriBytes, serves, prefixOf, inScopePrefix}
+use Rattle.rules.specs.Normalization.{isOwnDeclaration, revalued, numberedPrefix, leastFree, Repair, keep, takeDeclared, takeBuiltIn, declareOwn, makeNumbered, repairByDeclaring, repairBy, repairOf, newPrefix, newRows}
 use Rattle.rules.proofs.Lists.{by-cases}
 
 -- The field without its place, and the row without the places of its fields.

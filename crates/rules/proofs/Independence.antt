@@ -1,19 +1,19 @@
 -- Demand 3, second part, of the rows that normalization makes: two normalizations that agree on a set of rows closed under
 -- parents, and on what these own, agree there throughout.
 -- Assumes nothing.
-use Prim.Native.Nat.{ℕ, zero, suc, _+_, _≤_, _<_}
+use Prim.Native.Nat.{ℕ, zero, suc, _≤_, _<_}
 use mathlib.Core.Path.{_≡_, refl, sym, _∙_, ap, subst}
-use mathlib.Core.Bool.{Bool, true, false, cond, _&&_, _||_, not}
+use mathlib.Core.Bool.{Bool, true, false}
 use mathlib.Core.List.{List, [], _∷_, _++_, map}
 use native.Mathlib.Nat.{le-refl, le-trans, lt-of-lt-of-le}
 use native.Mathlib.Omega.{arith}
-use lib.ListN.{length, set, drop, length-set, length-append, length-map}
+use lib.ListN.{length, set, drop, length-set}
 use lib.Seq.{drop-append-le, drop-set-lt}
-use lib.Dec.{eqb, ltb}
+use lib.Dec.{eqb}
 use borrow.Author.Tests.{eqb-true, eq-eqb}
-use Rattle.rules.specs.Lists.{filtered, anyOf, gathered, isOneOf, isEmpty, sameBytes}
-use Rattle.rules.specs.Table.{Field, noField, Node, node}
-use Rattle.rules.specs.Lookups.{climb, elementsFrom, isDeclarationOf, ownDeclarations, declares, scopeAt, inScopeUri, uriBytes}
+use Rattle.rules.specs.Lists.{filtered, anyOf, isOneOf, isEmpty, sameBytes}
+use Rattle.rules.specs.Table.{ELEMENT, ATTRIBUTE, DECLARATION, Field, noField, Node, node}
+use Rattle.rules.specs.Lookups.{climb, elementsFrom, isDeclarationOf, ownDeclarations, declares, scopeOf, scopeAt, inScopeUri, uriBytes}
 use Rattle.rules.specs.Normalization.{State, newDeclaration, withPrefix, isOwnDeclaration, revalued, declare, repairElement, Repair, repairOf, newPrefix, newRows, perform, isAttributeOf, repairAttribute, repairAttributes, normalizeRow, normalizeRows}
 use Rattle.rules.specs.Demands.{addedDeclarations}
 use Rattle.rules.proofs.Lists.{by-cases, both-true, true-not-false, anyOf-filtered, filtered-append, filtered-map, map-append, map-gathered, map-natural}
@@ -43,14 +43,14 @@ core-prefixed ns a prefix x i =
 module _ (total : ℕ) (path : ℕ → Bool) where
   -- The row is an attribute or a declaration of a row of the set.
   abbrev Owned : Node → Type 0
-  Owned n = (isOneOf (2 ∷ 13 ∷ []) (n .type) ≡ true) × (path (n .parent) ≡ true)
+  Owned n = (isOneOf (ATTRIBUTE ∷ DECLARATION ∷ []) (n .type) ≡ true) × (path (n .parent) ≡ true)
 
   -- The set is closed under parents in these rows.
   pub record Closed (ns : List Node) : Type 0 where
     pub long : total ≤ length ns
     pub inside : (x : ℕ) → path x ≡ true → x < total
     pub parents : (x : ℕ) → path x ≡ true → node ns x .parent < x → path (node ns x .parent) ≡ true
-    pub owners : (x : ℕ) → path x ≡ true → isOneOf (2 ∷ 13 ∷ []) (node ns x .type) ≡ true → node ns x .parent < total → path (node ns x .parent) ≡ true
+    pub owners : (x : ℕ) → path x ≡ true → isOneOf (ATTRIBUTE ∷ DECLARATION ∷ []) (node ns x .type) ≡ true → node ns x .parent < total → path (node ns x .parent) ≡ true
 
   -- The two tables agree on the set, on what it owns, and on what was added to it.
   pub record Alike (ns ms : List Node) : Type 0 where
@@ -72,7 +72,7 @@ module _ (total : ℕ) (path : ℕ → Bool) where
 
   owned-core : {n m : Node} → SameCore n m → Owned m → Owned n
   owned-core c o =
-      (subst (λ (t : ℕ). isOneOf (2 ∷ 13 ∷ []) t ≡ true) (c .type) (o .0), subst (λ (t : ℕ). path t ≡ true) (c .parent) (o .1))
+      (subst (λ (t : ℕ). isOneOf (ATTRIBUTE ∷ DECLARATION ∷ []) t ≡ true) (c .type) (o .0), subst (λ (t : ℕ). path t ≡ true) (c .parent) (o .1))
 
   closed-kept : (r : ℕ) (ns ms : List Node) → Closed ns → Kept total r ns ms → Closed ms
   closed-kept r ns ms c k =
@@ -93,7 +93,7 @@ module _ (total : ℕ) (path : ℕ → Bool) where
     not-its-row x p =
         by-cases (isOwnedBy r (node ns x))
         (λ q.
-        let h = both-true (isOneOf (2 ∷ 13 ∷ []) (node ns x .type)) (eqb (node ns x .parent) r) q in
+        let h = both-true (isOneOf (ATTRIBUTE ∷ DECLARATION ∷ []) (node ns x .type)) (eqb (node ns x .parent) r) q in
         let z = eqb-true (node ns x .parent) r (h .1) in
         absurd (true-not-false (subst (λ (y : ℕ). path y ≡ true) z (c .owners x p (h .0) (rw z small))) outside))
         (λ q. q)
@@ -102,7 +102,7 @@ module _ (total : ℕ) (path : ℕ → Bool) where
     not-its-owned n p =
         by-cases (isOwnedBy r n)
         (λ q.
-        let h = both-true (isOneOf (2 ∷ 13 ∷ []) (n .type)) (eqb (n .parent) r) q in
+        let h = both-true (isOneOf (ATTRIBUTE ∷ DECLARATION ∷ []) (n .type)) (eqb (n .parent) r) q in
         absurd (true-not-false (subst (λ (y : ℕ). path y ≡ true) (eqb-true (n .parent) r (h .1)) p) outside))
         (λ q. q)
 
@@ -125,7 +125,7 @@ module _ (total : ℕ) (path : ℕ → Bool) where
 
   -- The scopes of a row of the set are alike.
   scope-alike : (ns ms : List Node) (e : ℕ) → Closed ns → Alike ns ms → path e ≡ true → map forget (scopeAt ns e) ≡ map forget (scopeAt ms e)
-  unfolding scopeAt elementsFrom
+  unfolding scopeAt scopeOf elementsFrom
   scope-alike ns ms e c h p =
       map-gathered forget (ownDeclarations ns) (climb (suc e) ns e)
       ∙ sym (gathered-climb (λ (x : ℕ). path x ≡ true) ns ms (λ (x : ℕ). map forget (ownDeclarations ms x)) (λ (x : ℕ). map forget (ownDeclarations ns x))
@@ -223,7 +223,7 @@ module _ (total : ℕ) (path : ℕ → Bool) where
 
   -- Changing an attribute's prefix alike.
   module _ (ns ms : List Node) (a : ℕ) (prefix prefix′ : Field) (c : Closed ns) (c′ : Closed ms) (small : a < total)
-      (t : node ns a .type ≡ 2) (t′ : node ms a .type ≡ 2) (same : forget (node ns a) ≡ forget (node ms a))
+      (t : node ns a .type ≡ ATTRIBUTE) (t′ : node ms a .type ≡ ATTRIBUTE) (same : forget (node ns a) ≡ forget (node ms a))
       (p : forgetField prefix ≡ forgetField prefix′) (h : Alike ns ms) where
     abbrev v : Node
     v = withPrefix prefix (node ns a)
@@ -313,7 +313,7 @@ module _ (total : ℕ) (path : ℕ → Bool) where
         (λ t. rw (q, sym (ap isEmpty ub) ∙ q, t, sym test ∙ t) (declare-alike ns ms (node ns e .prefix) (node ms e .prefix) (node ns e .uri) (node ms e .uri) c c′ s u h)))
 
     -- an attribute of e in both
-    perform-alike : (a : ℕ) (s s′ : State) → a < total → Closed (s .rows) → Closed (s′ .rows) → Alike (s .rows) (s′ .rows) → node (s .rows) a .type ≡ 2 → node (s′ .rows) a .type ≡ 2 → forget (node (s .rows) a) ≡ forget (node (s′ .rows) a) → Alike (perform e a (repairOf (scopeAt (s .rows) e) (node (s .rows) a)) s .rows) (perform e a (repairOf (scopeAt (s′ .rows) e) (node (s′ .rows) a)) s′ .rows)
+    perform-alike : (a : ℕ) (s s′ : State) → a < total → Closed (s .rows) → Closed (s′ .rows) → Alike (s .rows) (s′ .rows) → node (s .rows) a .type ≡ ATTRIBUTE → node (s′ .rows) a .type ≡ ATTRIBUTE → forget (node (s .rows) a) ≡ forget (node (s′ .rows) a) → Alike (perform e a (repairOf (scopeAt (s .rows) e) (node (s .rows) a)) s .rows) (perform e a (repairOf (scopeAt (s′ .rows) e) (node (s′ .rows) a)) s′ .rows)
     unfolding perform
     perform-alike a s s′ small c c′ h t t′ same =
         let n = node (s .rows) a in
@@ -362,12 +362,12 @@ module _ (total : ℕ) (path : ℕ → Bool) where
         absurd (true-not-false (alike-attribute (node (s .rows) a) (node (s′ .rows) a) same ∙ q′) q))
         (λ q′. rw (q, q′) h))
       where
-        is-attribute : (n : Node) → isAttributeOf e n ≡ true → n .type ≡ 2
-        is-attribute n q = eqb-true (n .type) 2 (both-true (eqb (n .type) 2) (eqb (n .parent) e) q .0)
+        is-attribute : (n : Node) → isAttributeOf e n ≡ true → n .type ≡ ATTRIBUTE
+        is-attribute n q = eqb-true (n .type) ATTRIBUTE (both-true (eqb (n .type) ATTRIBUTE) (eqb (n .parent) e) q .0)
 
         is-owned : (n : Node) → isAttributeOf e n ≡ true → Owned n
         is-owned n q =
-            let t = both-true (eqb (n .type) 2) (eqb (n .parent) e) q in
+            let t = both-true (eqb (n .type) ATTRIBUTE) (eqb (n .parent) e) q in
             (rw (t .0) refl, rw (eqb-true (n .parent) e (t .1)) p)
 
         alike-attribute : (n m : Node) → forget n ≡ forget m → isAttributeOf e n ≡ isAttributeOf e m
@@ -388,14 +388,14 @@ module _ (total : ℕ) (path : ℕ → Bool) where
   row-alike r s s′ small c c′ h =
       by-cases (path r)
       (λ p.
-      let same : eqb (node (s .rows) r .type) 1 ≡ eqb (node (s′ .rows) r .type) 1 = ap (λ (n : Node). eqb (n .type) 1) (h .rows r p) in
-      by-cases (eqb (node (s .rows) r .type) 1)
+      let same : eqb (node (s .rows) r .type) ELEMENT ≡ eqb (node (s′ .rows) r .type) ELEMENT = ap (λ (n : Node). eqb (n .type) ELEMENT) (h .rows r p) in
+      by-cases (eqb (node (s .rows) r .type) ELEMENT)
       (λ q.
       let q′ = sym same ∙ q in
       rw (q, q′)
       (attributes-alike r p total (record { rows = repairElement r (s .rows); pool = s .pool }) (record { rows = repairElement r (s′ .rows); pool = s′ .pool }) (le-refl total)
-      (closed-kept r (s .rows) (repairElement r (s .rows)) c (kept-element total r (s .rows) (lt-of-lt-of-le small (c .long)) (c .long) (eqb-true (node (s .rows) r .type) 1 q)))
-      (closed-kept r (s′ .rows) (repairElement r (s′ .rows)) c′ (kept-element total r (s′ .rows) (lt-of-lt-of-le small (c′ .long)) (c′ .long) (eqb-true (node (s′ .rows) r .type) 1 q′)))
+      (closed-kept r (s .rows) (repairElement r (s .rows)) c (kept-element total r (s .rows) (lt-of-lt-of-le small (c .long)) (c .long) (eqb-true (node (s .rows) r .type) ELEMENT q)))
+      (closed-kept r (s′ .rows) (repairElement r (s′ .rows)) c′ (kept-element total r (s′ .rows) (lt-of-lt-of-le small (c′ .long)) (c′ .long) (eqb-true (node (s′ .rows) r .type) ELEMENT q′)))
       (element-alike r p (s .rows) (s′ .rows) c c′ h)))
       (λ q. rw (q, sym same ∙ q) h))
       (λ p. outside p)

@@ -1,5 +1,6 @@
 pub mod Lists
 pub mod Table
+pub mod Refusals
 pub mod Accepted
 pub mod Scope
 pub mod Prefixes

@@ -1,15 +1,15 @@
 -- Laws of specs/Lists.antt: tests, byte strings, and lists by tests.
 -- Assumes nothing.
-use Prim.Native.Nat.{ℕ, zero, suc, _+_, _≤_, _<_, zero-le, suc-le-suc}
+use Prim.Native.Nat.{ℕ, zero, suc, _+_, _<_, zero-le, suc-le-suc}
 use mathlib.Core.Path.{_≡_, refl, sym, _∙_, ap, subst}
-use mathlib.Core.Bool.{Bool, true, false, cond, _&&_, _||_, not, true≢false}
+use mathlib.Core.Bool.{Bool, true, false, _&&_, _||_, not, true≢false}
 use mathlib.Core.List.{List, [], _∷_, _++_, map}
-use mathlib.Core.Option.{Option, none, some, Option·none-ne-some, Option·some-injective}
+use mathlib.Core.Option.{none, some, Option·none-ne-some, Option·some-injective}
 use native.Mathlib.Nat.{le-of-suc-le-suc, not-suc-le-zero, add-zero, add-suc, suc-add, suc-inj, suc-ne-zero}
 use lib.ListN.{length, getD, set}
 use lib.Dec.{T, eqb, eqb·suc-zero}
 use borrow.Author.Tests.{eqb-true, eq-eqb}
-use Rattle.rules.specs.Lists.{firstThat, filtered, anyOf, allOf, gathered, numbersFrom, isOneOf, isEmpty, sameBytes}
+use Rattle.rules.specs.Lists.{firstThat, filtered, anyOf, allOf, gathered, numbersFrom, isEmpty, sameBytes}
 
 -- A test as a fact and the fact as a test.
 pub T-true : (b : Bool) → T b → b ≡ true

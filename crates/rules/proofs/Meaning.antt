@@ -1,28 +1,28 @@
 -- Demand 3, first part, of the rows that normalization makes: every element and owned attribute means its URI in scope.
 -- Assumes nothing.
-use Prim.Native.Nat.{ℕ, zero, suc, _+_, _≤_, _<_}
+use Prim.Native.Nat.{ℕ, zero, suc, _≤_, _<_}
 use mathlib.Core.Path.{_≡_, refl, sym, _∙_, ap, subst}
 use mathlib.Core.Logic.{_⊎_, inl, inr}
-use mathlib.Core.Bool.{Bool, true, false, cond, _&&_, _||_, not, true≢false}
-use mathlib.Core.List.{List, [], _∷_, _++_, map, append-nil}
+use mathlib.Core.Bool.{Bool, true, false, cond, _||_, not}
+use mathlib.Core.List.{List, [], _∷_, _++_, append-nil}
 use native.Mathlib.Nat.{le-refl, le-trans, lt-of-lt-of-le, not-suc-le-zero}
 use native.Mathlib.Omega.{arith}
 use lib.ListN.{length, getD, set}
 use lib.Seq.{set-getD}
-use lib.Dec.{eqb, ltb}
+use lib.Dec.{eqb}
 use borrow.Author.Tests.{eqb-true, eq-eqb, ne-eqb}
 use Rattle.rules.specs.Lists.{filtered, anyOf, allOf, isOneOf, isEmpty, sameBytes}
-use Rattle.rules.specs.Table.{xmlUri, xmlPrefix, Field, noField, Node, noNode, node, isElement}
-use Rattle.rules.specs.Lookups.{elementsFrom, isDeclarationOf, ownDeclarations, declares, scopeAt, inScopeUri, uriBytes}
+use Rattle.rules.specs.Table.{ELEMENT, ATTRIBUTE, DECLARATION, xmlUri, xmlPrefix, Field, noField, Node, noNode, node, isElement}
+use Rattle.rules.specs.Lookups.{elementsFrom, isDeclarationOf, ownDeclarations, declares, scopeOf, scopeAt, inScopeUri, uriBytes}
 use Rattle.rules.specs.Normalization.{State, newDeclaration, withValue, withPrefix, isOwnDeclaration, revalued, declare, repairElement, Repair, keep, takeDeclared, takeBuiltIn, declareOwn, makeNumbered, repairOf, newBytes, newPrefix, newRows, perform, isAttributeOf, repairAttribute, repairAttributes, normalizeRow, normalizeRows}
 use Rattle.rules.proofs.Lists.{by-cases, both-true, true-both, true-not-false, sameBytes-equal, equal-sameBytes, empty-equal, allOf-append, allOf-gathered, allOf-map, allOf-set, allOf-getD}
 use Rattle.rules.proofs.Accepted.{NamespaceAccepted}
-use Rattle.rules.proofs.Scope.{isOwnedBy, SameCore, core-trans, core-refl, Kept, kept-refl, kept-trans}
+use Rattle.rules.proofs.Scope.{isOwnedBy, SameCore, core-trans, Kept, kept-trans}
 use Rattle.rules.proofs.Repairs.{empty-not-xml, empty-not-xmlns, xml-means, declare-means, scope-kept, InScopeAs, Served, isLegal, served, not-owned, is-element, kept-element, kept-perform, node-perform-same, node-perform-other, perform-self, perform-other}
 
 -- What the rows keep throughout: a declaration of a non-empty prefix has a value, an attribute with a prefix has a URI.
 unfoldable pub isSound : Node → Bool
-isSound n = cond (eqb (n .type) 13) (isLegal n) (cond (eqb (n .type) 2) (not (isEmpty (n .uri .bytes)) || isEmpty (n .prefix .bytes)) true)
+isSound n = cond (eqb (n .type) DECLARATION) (isLegal n) (cond (eqb (n .type) ATTRIBUTE) (not (isEmpty (n .uri .bytes)) || isEmpty (n .prefix .bytes)) true)
 
 sound-own : (x : ℕ) (ns : List Node) → allOf isSound ns ≡ true → allOf isLegal (filtered (isDeclarationOf x) ns) ≡ true
 unfolding isSound
@@ -31,13 +31,13 @@ sound-own x (n ∷ ns) s =
     let h = both-true (isSound n) (allOf isSound ns) s in
     by-cases (isDeclarationOf x n)
     (λ q.
-    let t = both-true (eqb (n .type) 13) (eqb (n .parent) x) q in
+    let t = both-true (eqb (n .type) DECLARATION) (eqb (n .parent) x) q in
     let head = h .0 in
     rw q (true-both (rw (t .0) at head) (sound-own x ns (h .1))))
     (λ q. rw q (sound-own x ns (h .1)))
 
 pub sound-scope : (ns : List Node) (e : ℕ) → allOf isSound ns ≡ true → allOf isLegal (scopeAt ns e) ≡ true
-unfolding scopeAt ownDeclarations
+unfolding scopeAt scopeOf ownDeclarations
 sound-scope ns e s = allOf-gathered isLegal (ownDeclarations ns) (λ x. sound-own x ns s) (elementsFrom ns e)
 
 sound-revalued : (e : ℕ) (prefix : List ℕ) (uri : Field) → (isEmpty prefix ≡ true) ⊎ (isEmpty (uri .bytes) ≡ false) → (n : Node) → isSound n ≡ true → isSound (revalued e prefix uri n) ≡ true
@@ -46,7 +46,7 @@ sound-revalued e prefix uri c n s =
     by-cases (isOwnDeclaration e prefix n)
     (λ q.
     let d = both-true (isDeclarationOf e n) (declares prefix n) q in
-    let t = both-true (eqb (n .type) 13) (eqb (n .parent) e) (d .0) in
+    let t = both-true (eqb (n .type) DECLARATION) (eqb (n .parent) e) (d .0) in
     rw (q, t .0) (legal c (sameBytes-equal (n .local .bytes) prefix (d .1))))
     (λ q. rw q s)
   where
@@ -77,7 +77,7 @@ AttributeMeans ns e a =
     ⊎ ((isEmpty (node ns a .uri .bytes) ≡ false) × (InScopeAs (scopeAt ns e) (node ns a .prefix .bytes) (node ns a .uri .bytes)))
 
 -- Steps 1 and 2.
-module _ (total e : ℕ) (ns : List Node) (within : e < length ns) (long : total ≤ length ns) (element : node ns e .type ≡ 1)
+module _ (total e : ℕ) (ns : List Node) (within : e < length ns) (long : total ≤ length ns) (element : node ns e .type ≡ ELEMENT)
     (good : NamespaceAccepted (node ns e)) where
   pub sound-element : allOf isSound ns ≡ true → allOf isSound (repairElement e ns) ≡ true
   unfolding repairElement
@@ -149,7 +149,7 @@ sound-new-rows e prefix uri (takeBuiltIn bytes) u = refl
 sound-new-rows e prefix uri declareOwn u = true-both (sound-declaration e prefix uri (inr u)) refl
 sound-new-rows e prefix uri (makeNumbered bytes) u = true-both (sound-declaration e prefix uri (inr u)) refl
 
-pub sound-perform : (e a : ℕ) (repair : Repair) (s : State) → node (s .rows) a .type ≡ 2 → isEmpty (node (s .rows) a .uri .bytes) ≡ false → allOf isSound (s .rows) ≡ true → allOf isSound (perform e a repair s .rows) ≡ true
+pub sound-perform : (e a : ℕ) (repair : Repair) (s : State) → node (s .rows) a .type ≡ ATTRIBUTE → isEmpty (node (s .rows) a .uri .bytes) ≡ false → allOf isSound (s .rows) ≡ true → allOf isSound (perform e a repair s .rows) ≡ true
 unfolding perform isSound
 sound-perform e a repair s t u h =
     let after = newPrefix (s .pool) (node (s .rows) a) repair in
@@ -169,22 +169,22 @@ record Attributed (total e count : ℕ) (before : List Node) (s : State) : Type 
   sound : allOf isSound (s .rows) ≡ true
   kept : Kept total e before (s .rows)
   element : ElementMeans (s .rows) e
-  attributes : (a : ℕ) → a < count → node (s .rows) a .type ≡ 2 → node (s .rows) a .parent ≡ e → AttributeMeans (s .rows) e a
+  attributes : (a : ℕ) → a < count → node (s .rows) a .type ≡ ATTRIBUTE → node (s .rows) a .parent ≡ e → AttributeMeans (s .rows) e a
 
 module _ (total e : ℕ) (before : List Node) (within : e < length before) (long : total ≤ length before)
-    (element : node before e .type ≡ 1) (good : NamespaceAccepted (node before e)) where
+    (element : node before e .type ≡ ELEMENT) (good : NamespaceAccepted (node before e)) where
   element-now : {count : ℕ} {s : State} → Attributed total e count before s → node (s .rows) e ≡ node before e
   element-now h = h .kept .rows e within (not-owned e (node before e) element)
 
   -- an attribute without a URI has no prefix
-  without-uri : (s : State) (a : ℕ) → allOf isSound (s .rows) ≡ true → a < length (s .rows) → node (s .rows) a .type ≡ 2 → isEmpty (node (s .rows) a .uri .bytes) ≡ true → isEmpty (node (s .rows) a .prefix .bytes) ≡ true
+  without-uri : (s : State) (a : ℕ) → allOf isSound (s .rows) ≡ true → a < length (s .rows) → node (s .rows) a .type ≡ ATTRIBUTE → isEmpty (node (s .rows) a .uri .bytes) ≡ true → isEmpty (node (s .rows) a .prefix .bytes) ≡ true
   unfolding isSound node
   without-uri s a h i t q =
       let own = allOf-getD isSound (s .rows) noNode a h i in
       rw (t, q) at own
 
   module _ (count : ℕ) (s : State) (small : count < total) (h : Attributed total e count before s)
-      (attribute : node (s .rows) count .type ≡ 2) (owned : node (s .rows) count .parent ≡ e) where
+      (attribute : node (s .rows) count .type ≡ ATTRIBUTE) (owned : node (s .rows) count .parent ≡ e) where
     rows-long : total ≤ length (s .rows)
     rows-long = le-trans long (h .kept .count)
 
@@ -203,7 +203,7 @@ module _ (total e : ℕ) (before : List Node) (within : e < length before) (long
           attributes = λ a i t o. go a t o (one-more a count i);
         }
       where
-        go : (a : ℕ) → node (s .rows) a .type ≡ 2 → node (s .rows) a .parent ≡ e → (a ≡ count) ⊎ (a < count) → AttributeMeans (s .rows) e a
+        go : (a : ℕ) → node (s .rows) a .type ≡ ATTRIBUTE → node (s .rows) a .parent ≡ e → (a ≡ count) ⊎ (a < count) → AttributeMeans (s .rows) e a
         go a t o (inl z) = subst (λ (r : ℕ). AttributeMeans (s .rows) e r) (sym z) (inl (q, without-uri s count (h .sound) (lt-of-lt-of-le small rows-long) attribute q))
         go a t o (inr z) = h .attributes a z t o
 
@@ -242,7 +242,7 @@ module _ (total e : ℕ) (before : List Node) (within : e < length before) (long
           let same = node-perform-same total e s count repair small rows-long attribute owned in
           rw same (inr (full, perform-self total e s count repair small rows-long attribute owned e-within e-element serves-it))
 
-      attribute-other : (a : ℕ) → a < count → node (next .rows) a .type ≡ 2 → node (next .rows) a .parent ≡ e → AttributeMeans (next .rows) e a
+      attribute-other : (a : ℕ) → a < count → node (next .rows) a .type ≡ ATTRIBUTE → node (next .rows) a .parent ≡ e → AttributeMeans (next .rows) e a
       unfolding next
       attribute-other a i t o =
           let same : node (next .rows) a ≡ node (s .rows) a = node-perform-other total e s count repair small rows-long attribute owned a (omega (arith, rows-long)) (λ z. omega arith) in
@@ -262,7 +262,7 @@ module _ (total e : ℕ) (before : List Node) (within : e < length before) (long
             attributes = λ a i t o. go a t o (one-more a count i);
           }
         where
-          go : (a : ℕ) → node (next .rows) a .type ≡ 2 → node (next .rows) a .parent ≡ e → (a ≡ count) ⊎ (a < count) → AttributeMeans (next .rows) e a
+          go : (a : ℕ) → node (next .rows) a .type ≡ ATTRIBUTE → node (next .rows) a .parent ≡ e → (a ≡ count) ⊎ (a < count) → AttributeMeans (next .rows) e a
           go a t o (inl z) = subst (λ (r : ℕ). AttributeMeans (next .rows) e r) (sym z) attribute-next
           go a t o (inr z) = attribute-other a z t o
 
@@ -271,8 +271,8 @@ module _ (total e : ℕ) (before : List Node) (within : e < length before) (long
   attribute-step count s small h =
       by-cases (isAttributeOf e (node (s .rows) count))
       (λ q.
-      let t = both-true (eqb (node (s .rows) count .type) 2) (eqb (node (s .rows) count .parent) e) q in
-      let attribute = eqb-true (node (s .rows) count .type) 2 (t .0) in
+      let t = both-true (eqb (node (s .rows) count .type) ATTRIBUTE) (eqb (node (s .rows) count .parent) e) q in
+      let attribute = eqb-true (node (s .rows) count .type) ATTRIBUTE (t .0) in
       let owned = eqb-true (node (s .rows) count .parent) e (t .1) in
       by-cases (isEmpty (node (s .rows) count .uri .bytes))
       (λ u.
@@ -287,7 +287,7 @@ module _ (total e : ℕ) (before : List Node) (within : e < length before) (long
         attributes = λ a i t o. go q a t o (one-more a count i);
       }))
     where
-      go : isAttributeOf e (node (s .rows) count) ≡ false → (a : ℕ) → node (s .rows) a .type ≡ 2 → node (s .rows) a .parent ≡ e → (a ≡ count) ⊎ (a < count) → AttributeMeans (s .rows) e a
+      go : isAttributeOf e (node (s .rows) count) ≡ false → (a : ℕ) → node (s .rows) a .type ≡ ATTRIBUTE → node (s .rows) a .parent ≡ e → (a ≡ count) ⊎ (a < count) → AttributeMeans (s .rows) e a
       go q a t o (inl z) =
           let yes? : isAttributeOf e (node (s .rows) a) ≡ true = rw (t, eq-eqb (node (s .rows) a .parent) e o) refl in
           absurd (true-not-false (subst (λ (r : ℕ). isAttributeOf e (node (s .rows) r) ≡ true) z yes?) q)
@@ -303,13 +303,13 @@ pub record Normal (base : List Node) (count : ℕ) (s : State) : Type 0 where
   pub long : length base ≤ length (s .rows)
   pub sound : allOf isSound (s .rows) ≡ true
   pub core : (r : ℕ) → r < length base → SameCore (node base r) (node (s .rows) r)
-  pub fixed : (r : ℕ) → r < length base → isOneOf (2 ∷ 13 ∷ []) (node base r .type) ≡ false → node (s .rows) r ≡ node base r
-  pub elements : (e : ℕ) → e < count → node base e .type ≡ 1 → ElementMeans (s .rows) e
-  pub attributes : (a : ℕ) → a < length base → node base a .type ≡ 2 → node base a .parent < count → node base (node base a .parent) .type ≡ 1 → AttributeMeans (s .rows) (node base a .parent) a
+  pub fixed : (r : ℕ) → r < length base → isOneOf (ATTRIBUTE ∷ DECLARATION ∷ []) (node base r .type) ≡ false → node (s .rows) r ≡ node base r
+  pub elements : (e : ℕ) → e < count → node base e .type ≡ ELEMENT → ElementMeans (s .rows) e
+  pub attributes : (a : ℕ) → a < length base → node base a .type ≡ ATTRIBUTE → node base a .parent < count → node base (node base a .parent) .type ≡ ELEMENT → AttributeMeans (s .rows) (node base a .parent) a
 
-module _ (base : List Node) (good : (e : ℕ) → e < length base → node base e .type ≡ 1 → NamespaceAccepted (node base e)) where
+module _ (base : List Node) (good : (e : ℕ) → e < length base → node base e .type ≡ ELEMENT → NamespaceAccepted (node base e)) where
   -- a row that is no element
-  skip-row : (count : ℕ) (s : State) → (node base count .type ≡ 1 → ⊥) → Normal base count s → Normal base (suc count) s
+  skip-row : (count : ℕ) (s : State) → (node base count .type ≡ ELEMENT → ⊥) → Normal base count s → Normal base (suc count) s
   skip-row count s other h =
       record {
         long = h .long;
@@ -320,16 +320,16 @@ module _ (base : List Node) (good : (e : ℕ) → e < length base → node base 
         attributes = λ a i t p o. attribute a i t o (one-more (node base a .parent) count p);
       }
     where
-      element : (e : ℕ) → node base e .type ≡ 1 → (e ≡ count) ⊎ (e < count) → ElementMeans (s .rows) e
-      element e t (inl z) = absurd (other (subst (λ (r : ℕ). node base r .type ≡ 1) z t))
+      element : (e : ℕ) → node base e .type ≡ ELEMENT → (e ≡ count) ⊎ (e < count) → ElementMeans (s .rows) e
+      element e t (inl z) = absurd (other (subst (λ (r : ℕ). node base r .type ≡ ELEMENT) z t))
       element e t (inr z) = h .elements e z t
 
-      attribute : (a : ℕ) → a < length base → node base a .type ≡ 2 → node base (node base a .parent) .type ≡ 1 → (node base a .parent ≡ count) ⊎ (node base a .parent < count) → AttributeMeans (s .rows) (node base a .parent) a
-      attribute a i t o (inl z) = absurd (other (subst (λ (r : ℕ). node base r .type ≡ 1) z o))
+      attribute : (a : ℕ) → a < length base → node base a .type ≡ ATTRIBUTE → node base (node base a .parent) .type ≡ ELEMENT → (node base a .parent ≡ count) ⊎ (node base a .parent < count) → AttributeMeans (s .rows) (node base a .parent) a
+      attribute a i t o (inl z) = absurd (other (subst (λ (r : ℕ). node base r .type ≡ ELEMENT) z o))
       attribute a i t o (inr z) = h .attributes a i t z o
 
   -- an element
-  module _ (count : ℕ) (s s′ : State) (small : count < length base) (element : node base count .type ≡ 1) (h : Normal base count s)
+  module _ (count : ℕ) (s s′ : State) (small : count < length base) (element : node base count .type ≡ ELEMENT) (h : Normal base count s)
       (done : Attributed (length base) count (length base) (s .rows) s′) where
     in-rows : (r : ℕ) → r < length base → r < length (s .rows)
     in-rows r i = lt-of-lt-of-le i (h .long)
@@ -338,13 +338,13 @@ module _ (base : List Node) (good : (e : ℕ) → e < length base → node base 
     earlier : (r : ℕ) → r < count → scopeAt (s′ .rows) r ≡ scopeAt (s .rows) r
     earlier r i = scope-kept (length base) count (s .rows) (s′ .rows) (done .kept) r i (in-rows r (omega arith))
 
-    element-earlier : (e : ℕ) → e < count → node base e .type ≡ 1 → ElementMeans (s′ .rows) e
+    element-earlier : (e : ℕ) → e < count → node base e .type ≡ ELEMENT → ElementMeans (s′ .rows) e
     element-earlier e i t =
         let b : e < length base = omega arith in
         let type = h .core e b .type ∙ t in
         rw (done .kept .rows e (in-rows e b) (not-owned count (node (s .rows) e) type), earlier e i) (h .elements e i t)
 
-    attribute-earlier : (a : ℕ) → a < length base → node base a .type ≡ 2 → node base a .parent < count → node base (node base a .parent) .type ≡ 1 → AttributeMeans (s′ .rows) (node base a .parent) a
+    attribute-earlier : (a : ℕ) → a < length base → node base a .type ≡ ATTRIBUTE → node base a .parent < count → node base (node base a .parent) .type ≡ ELEMENT → AttributeMeans (s′ .rows) (node base a .parent) a
     attribute-earlier a i t p o =
         let differs : eqb (node (s .rows) a .parent) count ≡ false = ne-eqb (node (s .rows) a .parent) count (λ z. let w = sym (h .core a i .parent) ∙ z in omega arith) in
         let not-its : isOwnedBy count (node (s .rows) a) ≡ false = rw (h .core a i .type ∙ t, differs) refl in
@@ -363,11 +363,11 @@ module _ (base : List Node) (good : (e : ℕ) → e < length base → node base 
           attributes = λ a i t p o. go-attribute a i t o (one-more (node base a .parent) count p);
         }
       where
-        go-element : (e : ℕ) → node base e .type ≡ 1 → (e ≡ count) ⊎ (e < count) → ElementMeans (s′ .rows) e
+        go-element : (e : ℕ) → node base e .type ≡ ELEMENT → (e ≡ count) ⊎ (e < count) → ElementMeans (s′ .rows) e
         go-element e t (inl z) = subst (λ (r : ℕ). ElementMeans (s′ .rows) r) (sym z) (done .element)
         go-element e t (inr z) = element-earlier e z t
 
-        go-attribute : (a : ℕ) → a < length base → node base a .type ≡ 2 → node base (node base a .parent) .type ≡ 1 → (node base a .parent ≡ count) ⊎ (node base a .parent < count) → AttributeMeans (s′ .rows) (node base a .parent) a
+        go-attribute : (a : ℕ) → a < length base → node base a .type ≡ ATTRIBUTE → node base (node base a .parent) .type ≡ ELEMENT → (node base a .parent ≡ count) ⊎ (node base a .parent < count) → AttributeMeans (s′ .rows) (node base a .parent) a
         go-attribute a i t o (inl z) =
             let c = core-trans (h .core a i) (done .kept .core a (in-rows a i)) in
             subst (λ (r : ℕ). AttributeMeans (s′ .rows) r a) (sym z) (done .attributes a i (c .type ∙ t) (c .parent ∙ z))
@@ -377,9 +377,9 @@ module _ (base : List Node) (good : (e : ℕ) → e < length base → node base 
   unfolding normalizeRow
   row-step count s small h =
       let within : count < length (s .rows) = lt-of-lt-of-le small (h .long) in
-      by-cases (eqb (node (s .rows) count .type) 1)
+      by-cases (eqb (node (s .rows) count .type) ELEMENT)
       (λ q.
-      let now = eqb-true (node (s .rows) count .type) 1 q in
+      let now = eqb-true (node (s .rows) count .type) ELEMENT q in
       let type = sym (h .core count small .type) ∙ now in
       let same = h .fixed count small (rw type refl) in
       let named : NamespaceAccepted (node (s .rows) count) = rw same (good count small type) in
@@ -393,7 +393,7 @@ module _ (base : List Node) (good : (e : ℕ) → e < length base → node base 
         element = element-means (length base) count (s .rows) within (h .long) now named;
         attributes = λ a i t o. absurd (not-suc-le-zero i);
       }))))
-      (λ q. rw q (skip-row count s (λ t. true-not-false (eq-eqb (node (s .rows) count .type) 1 (h .core count small .type ∙ t)) q) h))
+      (λ q. rw q (skip-row count s (λ t. true-not-false (eq-eqb (node (s .rows) count .type) ELEMENT (h .core count small .type ∙ t)) q) h))
 
   pub rows-normal : (count : ℕ) (s : State) → count ≤ length base → Normal base 0 s → Normal base count (normalizeRows (length base) count s)
   unfolding normalizeRows

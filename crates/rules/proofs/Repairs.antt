@@ -1,6 +1,6 @@
 -- What a repair does to the scope of its element.
 -- Assumes nothing.
-use Prim.Native.Nat.{ℕ, zero, suc, _+_, _≤_, _<_}
+use Prim.Native.Nat.{ℕ, zero, suc, _≤_, _<_}
 use mathlib.Core.Path.{_≡_, refl, sym, _∙_, ap, subst}
 use mathlib.Core.Logic.{_⊎_, inl, inr}
 use mathlib.Core.Bool.{Bool, true, false, cond, _&&_, _||_, not, true≢false}
@@ -11,11 +11,13 @@ use native.Mathlib.Omega.{arith}
 use lib.ListN.{length, set, length-set}
 use lib.Dec.{eqb, ltb}
 use borrow.Author.Tests.{eqb-true, eq-eqb, ltb-true}
-use Rattle.rules.specs.Lists.{firstThat, filtered, anyOf, allOf, gathered, isEmpty, sameBytes}
-use Rattle.rules.specs.Table.{xmlUri, xmlnsUri, xmlPrefix, xmlnsPrefix, Field, noField, Node, node, isElement}
-use Rattle.rules.specs.Lookups.{climb, elementsFrom, isDeclarationOf, ownDeclarations, declares, unlessEmpty, scopeAt, Binding, declared, builtInXml, builtInXmlns, unbound, orUnbound, valueOf, inScopeUri, uriBytes, serves, prefixOf, inScopePrefix}
-use Rattle.rules.specs.Normalization.{State, newDeclaration, withValue, withPrefix, isOwnDeclaration, revalued, declare, repairElement, numberedPrefix, leastFree, Repair, keep, takeDeclared, takeBuiltIn, declareOwn, makeNumbered, repairByDeclaring, repairBy, repairOf, newBytes, newPrefix, newRows, perform, isAttributeOf, repairAttribute, repairAttributes, normalizeRow}
-use Rattle.rules.proofs.Lists.{by-cases, both-true, both-false, true-both, not-true, true-not-false, sameBytes-equal, sameBytes-refl, equal-sameBytes, unequal-sameBytes, empty-equal, firstThat-passes, firstThat-append-none, firstThat-append-some, firstThat-none, firstThat-some, anyOf-filtered, filtered-append, filtered-map, filtered-passes, allOf-append, allOf-firstThat}
+use Rattle.rules.specs.Lists.{firstThat, filtered, anyOf, allOf, isEmpty, sameBytes}
+use Rattle.rules.specs.Table.{ELEMENT, ATTRIBUTE, xmlUri, xmlnsUri, xmlPrefix, xmlnsPrefix, Field, noField, Node, node, isElement}
+use Rattle.rules.specs.Lookups.{elementsFrom, isDeclarationOf, ownDeclarations, declares, unlessEmpty, scopeOf, scopeAt, Binding, declared, builtInXml, builtInXmlns, unbound, orUnbound, inScopeUri, uriBytes, serves, prefixOf, inScopePrefix}
+use Rattle.rules.specs.Normalization.{State, newDeclaration, withValue, withPrefix, isOwnDeclaration, revalued, declare, repairElement, numberedPrefix, leastFree, Repair, keep, takeDeclared, takeBuiltIn, declareOwn, makeNumbered, repairByDeclaring, repairBy, repairOf, newPrefix, newRows, perform, isAttributeOf, repairAttribute, repairAttributes, normalizeRow}
+use Rattle.rules.specs.Demands.{elementMeansIn, elementMeans, attributeMeansIn}
+use Rattle.rules.proofs.Lists.{by-cases, both-true, true-both, not-true, true-not-false, sameBytes-equal, sameBytes-refl, sameBytes-empty, empty-equal, firstThat-passes, firstThat-append-some, firstThat-none, anyOf-filtered, filtered-append, filtered-map, filtered-passes, allOf-firstThat}
+use Rattle.rules.proofs.Accepted.{Plain}
 use Rattle.rules.proofs.Scope.{gathered-climb, above, scope-split, isOwnedBy, Kept, kept-trans, kept-refl, kept-append, kept-revalued, kept-prefix, own-prefix, node-append, node-set-same, node-set-other}
 use Rattle.rules.proofs.Prefixes.{numbered-not-empty, numbered-not-xml, numbered-not-xmlns, least-free}
 
@@ -116,7 +118,7 @@ above-kept total e ns ms k h =
 
 -- The scope of an earlier row stays too.
 pub scope-kept : (total e : ℕ) (ns ms : List Node) → Kept total e ns ms → (r : ℕ) → r < e → r < length ns → scopeAt ms r ≡ scopeAt ns r
-unfolding scopeAt elementsFrom
+unfolding scopeAt scopeOf elementsFrom
 scope-kept total e ns ms k r less h =
     gathered-climb (λ (x : ℕ). x ≤ r) ns ms (ownDeclarations ms) (ownDeclarations ns)
     (λ x p i. le-trans (le-of-lt i) p)
@@ -369,7 +371,7 @@ lists-other e pool a own up (makeNumbered bytes) t q w m h =
 
 -- What performing a repair does.
 module _ (total e : ℕ) (s : State) (a : ℕ) (repair : Repair) (small : a < total) (long : total ≤ length (s .rows))
-    (attribute : node (s .rows) a .type ≡ 2) (owned : node (s .rows) a .parent ≡ e) where
+    (attribute : node (s .rows) a .type ≡ ATTRIBUTE) (owned : node (s .rows) a .parent ≡ e) where
   abbrev after : Field
   after = newPrefix (s .pool) (node (s .rows) a) repair
 
@@ -425,14 +427,14 @@ module _ (total e : ℕ) (s : State) (a : ℕ) (repair : Repair) (small : a < to
         (subst (λ (scope : List Node). uriBytes (inScopeUri scope q) ≡ w) split m) h)
 
 -- An element is owned by nobody.
-pub not-owned : (e : ℕ) (n : Node) → n .type ≡ 1 → isOwnedBy e n ≡ false
+pub not-owned : (e : ℕ) (n : Node) → n .type ≡ ELEMENT → isOwnedBy e n ≡ false
 not-owned e n t = rw t refl
 
-pub is-element : (n : Node) → n .type ≡ 1 → isElement (n .type) ≡ true
+pub is-element : (n : Node) → n .type ≡ ELEMENT → isElement (n .type) ≡ true
 is-element n t = rw t refl
 
 -- What the steps of one element keep of all others.
-module _ (total e : ℕ) (ns : List Node) (within : e < length ns) (long : total ≤ length ns) (element : node ns e .type ≡ 1) where
+module _ (total e : ℕ) (ns : List Node) (within : e < length ns) (long : total ≤ length ns) (element : node ns e .type ≡ ELEMENT) where
   pub kept-element : Kept total e ns (repairElement e ns)
   unfolding repairElement
   kept-element =
@@ -451,9 +453,9 @@ unfolding repairAttribute
 kept-attribute total e a s small long =
     by-cases (isAttributeOf e (node (s .rows) a))
     (λ q.
-    let t = both-true (eqb (node (s .rows) a .type) 2) (eqb (node (s .rows) a .parent) e) q in
+    let t = both-true (eqb (node (s .rows) a .type) ATTRIBUTE) (eqb (node (s .rows) a .parent) e) q in
     rw q
-    (kept-perform total e s a (repairOf (scopeAt (s .rows) e) (node (s .rows) a)) small long (eqb-true (node (s .rows) a .type) 2 (t .0))
+    (kept-perform total e s a (repairOf (scopeAt (s .rows) e) (node (s .rows) a)) small long (eqb-true (node (s .rows) a .type) ATTRIBUTE (t .0))
     (eqb-true (node (s .rows) a .parent) e (t .1))))
     (λ q. rw q (kept-refl total e (s .rows)))
 
@@ -467,10 +469,26 @@ kept-attributes total e (suc count) s small long =
 pub kept-row : (total r : ℕ) (s : State) → r < length (s .rows) → total ≤ length (s .rows) → Kept total r (s .rows) (normalizeRow total r s .rows)
 unfolding normalizeRow
 kept-row total r s within long =
-    by-cases (eqb (node (s .rows) r .type) 1)
+    by-cases (eqb (node (s .rows) r .type) ELEMENT)
     (λ q.
-    let first = kept-element total r (s .rows) within long (eqb-true (node (s .rows) r .type) 1 q) in
+    let first = kept-element total r (s .rows) within long (eqb-true (node (s .rows) r .type) ELEMENT q) in
     rw q
     (kept-trans first
     (kept-attributes total r total (record { rows = repairElement r (s .rows); pool = s .pool }) (le-refl total) (le-trans long (first .count)))))
     (λ q. rw q (kept-refl total r (s .rows)))
+
+-- Steps 1 and 2 are one: where the element does not mean its URI, its prefix is declared as that.
+pub element-by-meaning : (ns : List Node) (e : ℕ) → Plain (node ns e) → repairElement e ns ≡ cond (elementMeans ns e) ns (declare e (node ns e .prefix) (node ns e .uri) ns)
+unfolding repairElement elementMeans elementMeansIn
+element-by-meaning ns e plain =
+    by-cases (isEmpty (node ns e .uri .bytes))
+    (λ q. rw (plain .prefix q, plain .uri q, sameBytes-empty (uriBytes (inScopeUri (scopeAt ns e) []))) refl)
+    (λ q. rw q refl)
+
+-- Step 3: an attribute that means its URI is kept.
+pub attribute-by-meaning : (scope : List Node) (a : Node) → (isEmpty (a .uri .bytes) ≡ true → isEmpty (a .prefix .bytes) ≡ true) → repairOf scope a ≡ cond (attributeMeansIn scope a) keep (repairBy (inScopePrefix scope (a .uri .bytes)) (repairByDeclaring scope a))
+unfolding repairOf attributeMeansIn
+attribute-by-meaning scope a named =
+    by-cases (isEmpty (a .uri .bytes))
+    (λ q. rw (q, named q) refl)
+    (λ q. rw q refl)

@@ -1,28 +1,27 @@
 -- The rows that normalization makes lie in its pool, so the output buffers give them back; and what success tells of the input.
 -- Assumes nothing.
-use Prim.Native.Nat.{ℕ, zero, suc, _+_, _-_, _*_, _/_, _≤_, _<_}
+use Prim.Native.Nat.{ℕ, zero, suc, _+_, _-_, _*_, _≤_, _<_}
 use mathlib.Core.Path.{_≡_, refl, sym, _∙_, ap, subst}
-use mathlib.Core.Bool.{Bool, true, false, cond, _&&_, _||_, not, true≢false}
-use mathlib.Core.List.{List, [], _∷_, _++_, map}
+use mathlib.Core.Bool.{Bool, true, false, _&&_, not}
+use mathlib.Core.List.{List, [], _∷_, _++_}
 use mathlib.Core.Option.{Option, none, some}
-use native.Mathlib.Nat.{le-refl, le-trans, lt-of-lt-of-le, zero-add}
+use native.Mathlib.Nat.{le-refl, le-trans, lt-of-lt-of-le}
 use native.Mathlib.Omega.{arith}
 use lib.ListN.{length, getD, take, drop, set, replicate, length-append, length-drop, length-map, length-set}
 use lib.Seq.{take-append-le, drop-append-le, drop-append-seam, take-length, take-at, ext-getD}
-use lib.Dec.{T, eqb, ltb, leb, leb·zero}
-use borrow.Author.Tests.{eqb-true, leb-true, le-leb}
-use Rattle.rules.specs.Lists.{firstThat, anyOf, allOf, numbersFrom, sameBytes, isEmpty}
-use Rattle.rules.specs.Table.{Field, noField, part, Node, noNode, word, fieldAt, nodeAt, rowCount, nodes, wordsOf, words, node, isLevel1}
+use lib.Dec.{T, eqb, leb, leb·zero}
+use borrow.Author.Tests.{leb-true, le-leb}
+use Rattle.rules.specs.Lists.{anyOf, allOf, sameBytes, isEmpty}
+use Rattle.rules.specs.Table.{WIDTH, PREFIX, LOCAL-NAME, URI, VALUE, ELEMENT, Field, noField, part, Node, noNode, word, fieldAt, nodeAt, rowCount, nodes, words, node}
 use Rattle.rules.specs.Answers.{numberOf, normalizedNumber, normalizedRows, normalizedBytes}
-use Rattle.rules.specs.Refusals.{checked}
-use Rattle.rules.specs.Lookups.{elementsFrom, isDeclarationOf, ownDeclarations, scopeAt, Binding, declared, builtInXml, builtInXmlns, unbound, inScopeUri, uriBytes, serves, inScopePrefix}
-use Rattle.rules.specs.Normalization.{State, newDeclaration, withPrefix, isOwnDeclaration, revalued, declare, repairElement, Repair, keep, takeDeclared, takeBuiltIn, declareOwn, makeNumbered, repairByDeclaring, repairBy, repairOf, newBytes, newPrefix, newRows, perform, isAttributeOf, repairAttribute, repairAttributes, normalizeRow, normalizeRows, normalForm, Outcome, padded, refusal, success, tooManyRows, tooManyBytes, fitted, level1Row, outcomeUnlessLevel1, outcomeIf, normalized}
+use Rattle.rules.specs.Refusals.{firstRefusal, unlessRefused, checkRefusal}
+use Rattle.rules.proofs.Refusals.{all-none}
+use Rattle.rules.specs.Lookups.{elementsFrom, isDeclarationOf, ownDeclarations, scopeOf, scopeAt, Binding, declared, builtInXml, builtInXmlns, unbound, inScopeUri, uriBytes, serves, inScopePrefix}
+use Rattle.rules.specs.Normalization.{State, newDeclaration, withPrefix, isOwnDeclaration, revalued, declare, repairElement, Repair, keep, takeDeclared, takeBuiltIn, declareOwn, makeNumbered, repairByDeclaring, repairBy, repairOf, newBytes, newPrefix, newRows, perform, isAttributeOf, repairAttribute, repairAttributes, normalizeRow, normalizeRows, normalForm, padded, refusal, success, level1Refusal, roomRefusal, normalizationRefusal, normalized}
 use Rattle.rules.specs.Demands.{succeeded, resultRows}
-use Rattle.rules.specs.declared.Row.{Row}
 use Rattle.rules.specs.declared.Refusal.{Refusal}
-use Rattle.rules.specs.declared.Checked.{Checked}
 use Rattle.rules.proofs.Lists.{by-cases, both-true, true-both, T-true, true-not-false, sameBytes-equal, sameBytes-refl, equal-sameBytes, allOf-append, allOf-filtered, allOf-gathered, allOf-weaken, allOf-getD, allOf-every, allOf-set, allOf-map, allOf-firstThat}
-use Rattle.rules.proofs.Table.{length-nodes, node-nodes, length-words, word-words}
+use Rattle.rules.proofs.Table.{length-nodes, node-nodes, length-words, node-words}
 use Rattle.rules.proofs.Accepted.{Accepted, FieldAccepted, fields-accepted}
 use Rattle.rules.proofs.Repairs.{declared-by}
 
@@ -84,7 +83,7 @@ unfolding inPool
 in-pool-none pool = true-both (leb·zero (length pool)) refl
 
 fits-scope : (pool : List ℕ) (ns : List Node) (e : ℕ) → allOf (fitsIn pool) ns ≡ true → allOf (fitsIn pool) (scopeAt ns e) ≡ true
-unfolding scopeAt ownDeclarations
+unfolding scopeAt scopeOf ownDeclarations
 fits-scope pool ns e h = allOf-gathered (fitsIn pool) (ownDeclarations ns) (λ x. allOf-filtered (fitsIn pool) (isDeclarationOf x) ns h) (elementsFrom ns e)
 
 fits-node : (pool : List ℕ) (ns : List Node) (r : ℕ) → allOf (fitsIn pool) ns ≡ true → r < length ns → Fits pool (node ns r)
@@ -235,7 +234,7 @@ pool-attributes total e (suc count) s i h = pool-attribute total e count (repair
 pool-row : (total r : ℕ) (s : State) → r < total → Pool total s → Pool total (normalizeRow total r s)
 unfolding normalizeRow
 pool-row total r s i h =
-    by-cases (eqb (node (s .rows) r .type) 1)
+    by-cases (eqb (node (s .rows) r .type) ELEMENT)
     (λ q.
     rw q
     (pool-attributes total r total (record { rows = repairElement r (s .rows); pool = s .pool }) (le-refl total)
@@ -260,10 +259,9 @@ module _ (pool : List ℕ) (ns : List Node) (h : allOf (fitsIn pool) ns ≡ true
 
   row-back : (r : ℕ) → r < length ns → nodeAt (words ns) pool r ≡ node ns r
   row-back r i =
-      let w : (k : ℕ) → k < 10 → word (words ns) r k ≡ getD (wordsOf (node ns r)) k 0 = λ k j. word-words ns r k i j in
       let f = fits-node pool ns r h i in
-      rw (w 0 (omega arith), w 1 (omega arith), w 2 (omega arith), w 3 (omega arith), w 4 (omega arith), w 5 (omega arith), w 6 (omega arith), w 7 (omega arith), w 8 (omega arith), w 9 (omega arith))
-      (rw (field-back (node ns r .prefix) (f .prefix), field-back (node ns r .local) (f .local), field-back (node ns r .uri) (f .uri), field-back (node ns r .value) (f .value)) refl)
+      node-words pool ns r i
+      ∙ rw (field-back (node ns r .prefix) (f .prefix), field-back (node ns r .local) (f .local), field-back (node ns r .uri) (f .uri), field-back (node ns r .value) (f .value)) refl
 
   pub rows-back : nodes (words ns) pool ≡ ns
   unfolding node
@@ -278,7 +276,7 @@ module _ (pool : List ℕ) (ns : List Node) (h : allOf (fitsIn pool) ns ≡ true
 pub success-rows : (tableSize poolSize : ℕ) (s : State) → allOf (fitsIn (s .pool)) (s .rows) ≡ true → resultRows (success tableSize poolSize s) ≡ s .rows
 unfolding resultRows success normalizedRows normalizedBytes padded
 success-rows tableSize poolSize s h =
-    rw (take-at (words (s .rows)) (replicate (tableSize - length (words (s .rows))) 0) (10 * length (s .rows)) (length-words (s .rows)), take-at (s .pool) (replicate (poolSize - length (s .pool)) 0) (length (s .pool)) refl)
+    rw (take-at (words (s .rows)) (replicate (tableSize - length (words (s .rows))) 0) (WIDTH * length (s .rows)) (length-words (s .rows)), take-at (s .pool) (replicate (poolSize - length (s .pool)) 0) (length (s .pool)) refl)
     (rows-back (s .pool) (s .rows) h)
 
 -- No refusal has the number 0.
@@ -302,38 +300,26 @@ refused-fails tableSize poolSize x = refusal-numbered x
 
 -- What success tells: the check accepts, no row is of Level 1, and the outcome is the finished result.
 pub record Succeeds (table pool : List ℕ) (tableSize poolSize : ℕ) : Type 0 where
-  pub accepted : checked table pool ≡ Checked.Accepted
-  pub level2 : level1Row (nodes table pool) ≡ none
+  pub accepted : checkRefusal table pool ≡ none
+  pub level2 : level1Refusal (nodes table pool) ≡ none
   pub outcome : normalized table pool tableSize poolSize ≡ success tableSize poolSize (normalForm (nodes table pool) pool)
 
-module _ (tableSize poolSize : ℕ) where
-  fitted-succeeds : (s : State) → succeeded (fitted tableSize poolSize s) ≡ true → fitted tableSize poolSize s ≡ success tableSize poolSize s
-  unfolding fitted
-  fitted-succeeds s e =
-      by-cases (tooManyRows tableSize s)
-      (λ q. absurd (true-not-false (rw q at e) (refused-fails tableSize poolSize Refusal.RowRoom)))
-      (λ q.
-      by-cases (tooManyBytes poolSize s)
-      (λ t. absurd (true-not-false (rw (q, t) at e) (refused-fails tableSize poolSize Refusal.PoolRoom)))
-      (λ t. rw (q, t) refl))
-
-  unless-level1-succeeds : (o : Option ℕ) (result : Outcome) → succeeded (outcomeUnlessLevel1 tableSize poolSize o result) ≡ true → (o ≡ none) × (outcomeUnlessLevel1 tableSize poolSize o result ≡ result)
-  unless-level1-succeeds none result e = (refl, refl)
-  unless-level1-succeeds (some r) result e = absurd (true-not-false e (refused-fails tableSize poolSize (Refusal.Level1 (record { 0 = r }))))
-
-  if-accepted-succeeds : (c : Checked) (result : Outcome) → succeeded (outcomeIf tableSize poolSize c result) ≡ true → (c ≡ Checked.Accepted) × (outcomeIf tableSize poolSize c result ≡ result)
-  if-accepted-succeeds Checked.Accepted result e = (refl, refl)
-  if-accepted-succeeds (Checked.Refused x) result e = absurd (true-not-false e (refused-fails tableSize poolSize x))
-
 pub succeeds : (table pool : List ℕ) (tableSize poolSize : ℕ) → T (succeeded (normalized table pool tableSize poolSize)) → Succeeds table pool tableSize poolSize
-unfolding normalized
+unfolding normalized normalizationRefusal
 succeeds table pool tableSize poolSize t =
-    let result = fitted tableSize poolSize (normalForm (nodes table pool) pool) in
-    let inner = outcomeUnlessLevel1 tableSize poolSize (level1Row (nodes table pool)) result in
-    let a = if-accepted-succeeds tableSize poolSize (checked table pool) inner (T-true _ t) in
-    let b = unless-level1-succeeds tableSize poolSize (level1Row (nodes table pool)) result (sym (ap succeeded (a .1)) ∙ T-true _ t) in
-    let c = fitted-succeeds tableSize poolSize (normalForm (nodes table pool) pool) (sym (ap succeeded (a .1 ∙ b .1)) ∙ T-true _ t) in
-    record { accepted = a .0; level2 = b .0; outcome = a .1 ∙ b .1 ∙ c }
+    let result = normalForm (nodes table pool) pool in
+    let tried = checkRefusal table pool ∷ level1Refusal (nodes table pool) ∷ roomRefusal tableSize poolSize result ∷ [] in
+    let unrefused = go (firstRefusal tried) (T-true _ t) in
+    let a = all-none tried unrefused in
+    record {
+      accepted = a .0;
+      level2 = a .1 .0;
+      outcome = ap (λ (o : Option Refusal). unlessRefused o (refusal tableSize poolSize) (success tableSize poolSize result)) unrefused;
+    }
+  where
+    go : (o : Option Refusal) → succeeded (unlessRefused o (refusal tableSize poolSize) (success tableSize poolSize (normalForm (nodes table pool) pool))) ≡ true → o ≡ none
+    go none e = refl
+    go (some x) e = absurd (true-not-false e (refused-fails tableSize poolSize x))
 
 field-in-pool : (table pool : List ℕ) (r k : ℕ) → FieldAccepted (length pool) (fieldAt table pool r k) → inPool pool (fieldAt table pool r k) ≡ true
 unfolding inPool
@@ -351,8 +337,8 @@ input-pool table pool a =
     fit pool (node (nodes table pool) r)
     (rw same
     (record {
-      prefix = field-in-pool table pool r 2 (subst (λ (n : Node). FieldAccepted (length pool) (n .prefix)) same (f .prefix));
-      local = field-in-pool table pool r 4 (subst (λ (n : Node). FieldAccepted (length pool) (n .local)) same (f .local));
-      uri = field-in-pool table pool r 6 (subst (λ (n : Node). FieldAccepted (length pool) (n .uri)) same (f .uri));
-      value = field-in-pool table pool r 8 (subst (λ (n : Node). FieldAccepted (length pool) (n .value)) same (f .value));
+      prefix = field-in-pool table pool r PREFIX (subst (λ (n : Node). FieldAccepted (length pool) (n .prefix)) same (f .prefix));
+      local = field-in-pool table pool r LOCAL-NAME (subst (λ (n : Node). FieldAccepted (length pool) (n .local)) same (f .local));
+      uri = field-in-pool table pool r URI (subst (λ (n : Node). FieldAccepted (length pool) (n .uri)) same (f .uri));
+      value = field-in-pool table pool r VALUE (subst (λ (n : Node). FieldAccepted (length pool) (n .value)) same (f .value));
     })))

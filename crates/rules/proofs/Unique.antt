@@ -12,12 +12,12 @@ use lib.Seq.{ext-getD, getD-take, length-take-le, getD-append-seam}
 use lib.Dec.{eqb, ltb}
 use borrow.Author.Tests.{eqb-true, eqb-false, eq-eqb, ne-eqb, ltb-true, ltb-false}
 use Rattle.rules.specs.Lists.{firstThat, anyOf, allOf, isEmpty, sameBytes}
-use Rattle.rules.specs.Table.{NONE, Field, noField, Node, noNode, nodes, node, isElement}
+use Rattle.rules.specs.Table.{NONE, ELEMENT, ATTRIBUTE, DECLARATION, Field, noField, Node, noNode, nodes, node, isElement}
 use Rattle.rules.specs.Refusals.{isDouble}
 use Rattle.rules.specs.Lookups.{isDeclarationOf, ownDeclarations, declares, scopeAt, inScopeUri, uriBytes}
 use Rattle.rules.specs.Normalization.{State, newDeclaration, withValue, withPrefix, isOwnDeclaration, revalued, declare, repairElement, Repair, keep, takeDeclared, takeBuiltIn, declareOwn, makeNumbered, repairOf, newPrefix, newRows, perform, isAttributeOf, repairAttribute, repairAttributes, normalizeRow, normalizeRows}
-use Rattle.rules.proofs.Lists.{by-cases, both-true, true-both, true-not-false, sameBytes-equal, equal-sameBytes, firstThat-none, none-firstThat, firstThat-none-getD, anyOf-filtered, allOf-every}
-use Rattle.rules.proofs.Accepted.{Accepted, NamespaceAccepted, namespace-accepted, declaration-owned, declaration-valued}
+use Rattle.rules.proofs.Lists.{by-cases, both-true, true-both, true-not-false, sameBytes-equal, equal-sameBytes, firstThat-none, none-firstThat, firstThat-none-getD, anyOf-filtered, allOf-every, allOf-getD}
+use Rattle.rules.proofs.Accepted.{Accepted, NamespaceAccepted, namespace-accepted, Plain, plain-accepted, declaration-owned, declaration-valued}
 use Rattle.rules.proofs.Scope.{scope-split, above, SameCore, Kept, kept-trans, kept-prefix, own-prefix, own-declaration, revalued-core, node-append, node-map, node-set-same, node-set-other}
 use Rattle.rules.proofs.Repairs.{prefix-none, Fresh, Served, served, not-owned, kept-element, kept-attribute, kept-attributes}
 use Rattle.rules.proofs.Meaning.{isSound, sound-scope, sound-element, sound-perform, perform-keep, repair-empty}
@@ -28,7 +28,7 @@ pub record Unique (ns : List Node) : Type 0 where
   pub same : (r r′ e : ℕ) (prefix : List ℕ) → r < length ns → r′ < length ns → isOwnDeclaration e prefix (node ns r) ≡ true → isOwnDeclaration e prefix (node ns r′) ≡ true → r ≡ r′
 
 -- What an own declaration is.
-own-parts : (e : ℕ) (prefix : List ℕ) (n : Node) → isOwnDeclaration e prefix n ≡ true → (n .type ≡ 13) × (n .parent ≡ e) × (n .local .bytes ≡ prefix)
+own-parts : (e : ℕ) (prefix : List ℕ) (n : Node) → isOwnDeclaration e prefix n ≡ true → (n .type ≡ DECLARATION) × (n .parent ≡ e) × (n .local .bytes ≡ prefix)
 own-parts e prefix n q =
     let d = own-declaration e prefix n q in
     (d .0, d .1, sameBytes-equal (n .local .bytes) prefix (both-true (isDeclarationOf e n) (declares prefix n) q .1))
@@ -150,7 +150,7 @@ fresh-own ns e prefix t f =
     (prefix-none (declares prefix) (ownDeclarations ns e) (above ns e) (sym (ap (firstThat (declares prefix)) (scope-split ns e t)) ∙ f .undeclared))
 
 module _ (total e : ℕ) (s : State) (a : ℕ) (small : a < total) (long : total ≤ length (s .rows))
-    (attribute : node (s .rows) a .type ≡ 2) (owned : node (s .rows) a .parent ≡ e) (element : isElement (node (s .rows) e .type) ≡ true)
+    (attribute : node (s .rows) a .type ≡ ATTRIBUTE) (owned : node (s .rows) a .parent ≡ e) (element : isElement (node (s .rows) e .type) ≡ true)
     (u : Unique (s .rows)) where
   abbrev changed : Field → List Node
   changed prefix = set (s .rows) a (withPrefix prefix (node (s .rows) a))
@@ -187,12 +187,12 @@ unique-attribute total e a s small long element sound u =
     let n = node (s .rows) a in
     by-cases (isAttributeOf e n)
     (λ q.
-    let t = both-true (eqb (n .type) 2) (eqb (n .parent) e) q in
+    let t = both-true (eqb (n .type) ATTRIBUTE) (eqb (n .parent) e) q in
     by-cases (isEmpty (n .uri .bytes))
     (λ w. rw (q, repair-empty scope n w, perform-keep e a s) u)
     (λ w.
     rw q
-    (unique-perform total e s a small long (eqb-true (n .type) 2 (t .0)) (eqb-true (n .parent) e (t .1)) element u (repairOf scope n)
+    (unique-perform total e s a small long (eqb-true (n .type) ATTRIBUTE (t .0)) (eqb-true (n .parent) e (t .1)) element u (repairOf scope n)
     (served scope n (sound-scope (s .rows) e sound) w))))
     (λ q. rw q u)
 
@@ -206,7 +206,7 @@ sound-attribute e a s sound =
     by-cases (isEmpty (n .uri .bytes))
     (λ w. rw (q, repair-empty scope n w, perform-keep e a s) sound)
     (λ w.
-    rw q (sound-perform e a (repairOf scope n) s (eqb-true (n .type) 2 (both-true (eqb (n .type) 2) (eqb (n .parent) e) q .0)) w sound)))
+    rw q (sound-perform e a (repairOf scope n) s (eqb-true (n .type) ATTRIBUTE (both-true (eqb (n .type) ATTRIBUTE) (eqb (n .parent) e) q .0)) w sound)))
     (λ q. rw q sound)
 
 -- Setting the value of one element's declarations of a prefix is a store to one row.
@@ -235,29 +235,40 @@ pub record Steady (total : ℕ) (s : State) : Type 0 where
   pub sound : allOf isSound (s .rows) ≡ true
   pub unique : Unique (s .rows)
   -- the table's elements are as they were
-  pub named : (e : ℕ) → e < total → node (s .rows) e .type ≡ 1 → NamespaceAccepted (node (s .rows) e)
+  pub named : (e : ℕ) → e < total → node (s .rows) e .type ≡ ELEMENT → NamespaceAccepted (node (s .rows) e)
+  pub plain : (e : ℕ) → e < total → node (s .rows) e .type ≡ ELEMENT → Plain (node (s .rows) e)
 
-named-kept : (total x : ℕ) (ns ms : List Node) → total ≤ length ns → Kept total x ns ms → ((e : ℕ) → e < total → node ns e .type ≡ 1 → NamespaceAccepted (node ns e)) → (e : ℕ) → e < total → node ms e .type ≡ 1 → NamespaceAccepted (node ms e)
-named-kept total x ns ms long k named e i t =
+-- A repair changes no element's own row.
+element-kept : (P : Node → Type 0) (total x : ℕ) (ns ms : List Node) → total ≤ length ns → Kept total x ns ms → ((e : ℕ) → e < total → node ns e .type ≡ ELEMENT → P (node ns e)) → (e : ℕ) → e < total → node ms e .type ≡ ELEMENT → P (node ms e)
+element-kept P total x ns ms long k holds e i t =
     let j = lt-of-lt-of-le i long in
     let type = sym (k .core e j .type) ∙ t in
-    rw (k .rows e j (not-owned x (node ns e) type)) (named e i type)
+    rw (k .rows e j (not-owned x (node ns e) type)) (holds e i type)
+
+-- An attribute with a prefix has a URI.
+pub attribute-named : (e a total : ℕ) (s : State) → Steady total s → a < length (s .rows) → isAttributeOf e (node (s .rows) a) ≡ true → isEmpty (node (s .rows) a .uri .bytes) ≡ true → isEmpty (node (s .rows) a .prefix .bytes) ≡ true
+unfolding isSound node
+attribute-named e a total s h i owned none =
+    let n = node (s .rows) a in
+    let type = eqb-true (n .type) ATTRIBUTE (both-true (eqb (n .type) ATTRIBUTE) (eqb (n .parent) e) owned .0) in
+    let sound = allOf-getD isSound (s .rows) noNode a (h .sound) i in
+    rw (type, none) at sound
 
 module _ (table pool : List ℕ) (a : Accepted table pool) where
   input-sound : (r : ℕ) → r < length (nodes table pool) → isSound (node (nodes table pool) r) ≡ true
   unfolding isSound
   input-sound r i =
       let n = node (nodes table pool) r in
-      by-cases (eqb (n .type) 13)
+      by-cases (eqb (n .type) DECLARATION)
       (λ q.
       by-cases (isEmpty (n .local .bytes))
       (λ l. rw (q, l) refl)
-      (λ l. rw (q, l, declaration-valued (nodes table pool) (length pool) r (a .row r i) (eqb-true (n .type) 13 q) l) refl))
+      (λ l. rw (q, l, declaration-valued (nodes table pool) (length pool) r (a .row r i) (eqb-true (n .type) DECLARATION q) l) refl))
       (λ q.
-      by-cases (eqb (n .type) 2)
+      by-cases (eqb (n .type) ATTRIBUTE)
       (λ t.
       by-cases (isEmpty (n .uri .bytes))
-      (λ u. let c = namespace-accepted (nodes table pool) (length pool) r (a .row r i) (rw (eqb-true (n .type) 2 t) refl) in rw (q, t, u, c .prefixHasUri u) refl)
+      (λ u. let c = namespace-accepted (nodes table pool) (length pool) r (a .row r i) (rw (eqb-true (n .type) ATTRIBUTE t) refl) in rw (q, t, u, c .prefixHasUri u) refl)
       (λ u. rw (q, t, u) refl))
       (λ t. rw (q, t) refl))
 
@@ -270,9 +281,10 @@ module _ (table pool : List ℕ) (a : Accepted table pool) where
         sound = allOf-every isSound (nodes table pool) noNode input-sound;
         unique = accepted-unique table pool a;
         named = λ e i t. namespace-accepted (nodes table pool) (length pool) e (a .row e i) (rw t refl);
+        plain = plain-accepted table pool a;
       }
 
-pub steady-element : (total r : ℕ) (s : State) → r < total → node (s .rows) r .type ≡ 1 → Steady total s → Steady total (record { rows = repairElement r (s .rows); pool = s .pool })
+pub steady-element : (total r : ℕ) (s : State) → r < total → node (s .rows) r .type ≡ ELEMENT → Steady total s → Steady total (record { rows = repairElement r (s .rows); pool = s .pool })
 steady-element total r s i t h =
     let j = lt-of-lt-of-le i (h .long) in
     record {
@@ -280,7 +292,8 @@ steady-element total r s i t h =
       fit = fits-element (s .pool) r (s .rows) j (h .fit);
       sound = sound-element total r (s .rows) j (h .long) t (h .named r i t) (h .sound);
       unique = unique-element r (s .rows) (h .unique);
-      named = named-kept total r (s .rows) (repairElement r (s .rows)) (h .long) (kept-element total r (s .rows) j (h .long) t) (h .named);
+      named = element-kept NamespaceAccepted total r (s .rows) (repairElement r (s .rows)) (h .long) (kept-element total r (s .rows) j (h .long) t) (h .named);
+      plain = element-kept Plain total r (s .rows) (repairElement r (s .rows)) (h .long) (kept-element total r (s .rows) j (h .long) t) (h .plain);
     }
 
 pub steady-attribute : (total e a : ℕ) (s : State) → a < total → isElement (node (s .rows) e .type) ≡ true → Steady total s → Steady total (repairAttribute e a s)
@@ -291,7 +304,8 @@ steady-attribute total e a s i t h =
       fit = p .fit;
       sound = sound-attribute e a s (h .sound);
       unique = unique-attribute total e a s i (h .long) t (h .sound) (h .unique);
-      named = named-kept total e (s .rows) (repairAttribute e a s .rows) (h .long) (kept-attribute total e a s i (h .long)) (h .named);
+      named = element-kept NamespaceAccepted total e (s .rows) (repairAttribute e a s .rows) (h .long) (kept-attribute total e a s i (h .long)) (h .named);
+      plain = element-kept Plain total e (s .rows) (repairAttribute e a s .rows) (h .long) (kept-attribute total e a s i (h .long)) (h .plain);
     }
 
 -- an element stays one while its attributes are repaired
@@ -309,15 +323,15 @@ steady-attributes total e (suc count) s i j t h =
 abbrev pub repairedUpTo : ℕ → ℕ → State → State
 repairedUpTo r a s = repairAttributes r a (record { rows = repairElement r (s .rows); pool = s .pool })
 
-pub row-element : (total r : ℕ) (s : State) → node (s .rows) r .type ≡ 1 → normalizeRow total r s ≡ repairedUpTo r total s
+pub row-element : (total r : ℕ) (s : State) → node (s .rows) r .type ≡ ELEMENT → normalizeRow total r s ≡ repairedUpTo r total s
 unfolding normalizeRow
-row-element total r s t = rw (eq-eqb (node (s .rows) r .type) 1 t) refl
+row-element total r s t = rw (eq-eqb (node (s .rows) r .type) ELEMENT t) refl
 
-pub row-other : (total r : ℕ) (s : State) → (node (s .rows) r .type ≡ 1 → ⊥) → normalizeRow total r s ≡ s
+pub row-other : (total r : ℕ) (s : State) → (node (s .rows) r .type ≡ ELEMENT → ⊥) → normalizeRow total r s ≡ s
 unfolding normalizeRow
-row-other total r s t = rw (ne-eqb (node (s .rows) r .type) 1 t) refl
+row-other total r s t = rw (ne-eqb (node (s .rows) r .type) ELEMENT t) refl
 
-module _ (total r a : ℕ) (s : State) (small : r < total) (few : a ≤ total) (element : node (s .rows) r .type ≡ 1) where
+module _ (total r a : ℕ) (s : State) (small : r < total) (few : a ≤ total) (element : node (s .rows) r .type ≡ ELEMENT) where
   pub kept-up-to : total ≤ length (s .rows) → Kept total r (s .rows) (repairedUpTo r a s .rows)
   kept-up-to long =
       let k = kept-element total r (s .rows) (lt-of-lt-of-le small long) long element in
@@ -336,9 +350,9 @@ module _ (total r a : ℕ) (s : State) (small : r < total) (few : a ≤ total) (
 
 pub steady-row : (total r : ℕ) (s : State) → r < total → Steady total s → Steady total (normalizeRow total r s)
 steady-row total r s i h =
-    by-cases (eqb (node (s .rows) r .type) 1)
-    (λ q. let t = eqb-true (node (s .rows) r .type) 1 q in rw (row-element total r s t) (steady-up-to total r total s i (le-refl total) t h))
-    (λ q. rw (row-other total r s (eqb-false (node (s .rows) r .type) 1 q)) h)
+    by-cases (eqb (node (s .rows) r .type) ELEMENT)
+    (λ q. let t = eqb-true (node (s .rows) r .type) ELEMENT q in rw (row-element total r s t) (steady-up-to total r total s i (le-refl total) t h))
+    (λ q. rw (row-other total r s (eqb-false (node (s .rows) r .type) ELEMENT q)) h)
 
 pub steady-rows : (total count : ℕ) (s : State) → count ≤ total → Steady total s → Steady total (normalizeRows total count s)
 unfolding normalizeRows

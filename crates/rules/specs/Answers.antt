@@ -1,10 +1,9 @@
--- What each answer says in document 01's numbers: the refusal's number and row, the place, and the sizes.
+-- RULES 2, answers: the refusal's number and row, the place, and the sizes that each of them stands for.
 -- An accepted check and a success have refusal number 0 and row 0.
 use Prim.Native.Nat.{ℕ}
 use mathlib.Core.Bool.{Bool, true, false}
 use mathlib.Core.List.{List, []}
 use Rattle.rules.specs.Table.{xmlUri, xmlnsUri, xmlPrefix, xmlnsPrefix}
-use Rattle.rules.specs.declared.Row.{Row}
 use Rattle.rules.specs.declared.Place.{Place}
 use Rattle.rules.specs.declared.Refusal.{Refusal}
 use Rattle.rules.specs.declared.Checked.{Checked}
@@ -105,3 +104,20 @@ normalizedRows (Normalized.Refused x) = 0
 unfoldable pub normalizedBytes : Normalized → ℕ
 normalizedBytes (Normalized.Done rows bytes) = bytes
 normalizedBytes (Normalized.Refused x) = 0
+
+-- Which built-in an in-scope lookup answers, as a number.
+abbrev pub NO-BUILT-IN : ℕ
+NO-BUILT-IN = 0
+
+abbrev pub BUILT-IN-XML : ℕ
+BUILT-IN-XML = 1
+
+abbrev pub BUILT-IN-XMLNS : ℕ
+BUILT-IN-XMLNS = 2
+
+unfoldable pub inScopeBuiltIn : InScope → ℕ
+inScopeBuiltIn (InScope.At p) = NO-BUILT-IN
+inScopeBuiltIn InScope.Xml = BUILT-IN-XML
+inScopeBuiltIn InScope.Xmlns = BUILT-IN-XMLNS
+inScopeBuiltIn InScope.Nothing = NO-BUILT-IN
+inScopeBuiltIn (InScope.Refused x) = NO-BUILT-IN

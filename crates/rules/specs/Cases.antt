@@ -1,13 +1,12 @@
--- Document 01, "Rehearsal list": the marked cases, and before them one for each of "Easy to get wrong" that they leave out.
+-- RULES 7, cases: M1 to M12, and before them one for each trap of RULES 8 that they leave out.
 -- Each is an input, the sizes of the two outputs, and the whole outcome.
 use Prim.Native.Nat.{ℕ}
-use mathlib.Core.Bool.{Bool, true, _&&_}
+use mathlib.Core.Bool.{Bool, _&&_}
 use mathlib.Core.List.{List, [], _∷_, _++_}
 use lib.ListN.{replicate}
-use lib.Dec.{eqb}
 use Rattle.rules.specs.Lists.{allOf, ascii, sameBytes}
 use Rattle.rules.specs.Table.{NONE}
-use Rattle.rules.specs.Answers.{Number, normalizedNumber, normalizedRows, normalizedBytes}
+use Rattle.rules.specs.Answers.{normalizedNumber, normalizedRows, normalizedBytes}
 use Rattle.rules.specs.Normalization.{Outcome, normalized}
 
 pub record Case : Type 0 where
@@ -47,18 +46,18 @@ exampleB = row 1 NONE (0, 0) (0, 1) (0, 0) (0, 0) ++ row 2 0 (0, 0) (2, 1) (1, 1
 abbrev exampleB′ : List ℕ
 exampleB′ = row 1 NONE (0, 0) (0, 1) (0, 0) (0, 0) ++ row 2 0 (3, 3) (2, 1) (1, 1) (0, 0) ++ row 13 0 (0, 0) (3, 3) (0, 0) (1, 1)
 
--- The names of document 001's two trees: root, parent, ns, bar, child1, child2 and the two URIs.
-abbrev names001 : List ℕ
-names001 = ascii "rootparentnsbarchild1child2http://www.example.org/ns1http://www.example.org/ns2"
+-- The names of the two trees of RULES 7.2: root, parent, ns, bar, child1, child2 and the two URIs.
+abbrev treeNames : List ℕ
+treeNames = ascii "rootparentnsbarchild1child2http://www.example.org/ns1http://www.example.org/ns2"
 
--- 001, B.1.1: root, parent with xmlns:ns and xmlns:bar, ns:child1 with its xmlns:ns, and ns:child2.
+-- B.1.1: root, parent with xmlns:ns and xmlns:bar, ns:child1 with its xmlns:ns, and ns:child2.
 abbrev tree1 : List ℕ
 tree1 =
     row 1 NONE (0, 0) (0, 4) (0, 0) (0, 0) ++ row 1 0 (0, 0) (4, 6) (0, 0) (0, 0) ++ row 13 1 (0, 0) (10, 2) (0, 0) (27, 26)
     ++ row 13 1 (0, 0) (12, 3) (0, 0) (53, 26) ++ row 1 1 (10, 2) (15, 6) (53, 26) (0, 0)
     ++ row 13 4 (0, 0) (10, 2) (0, 0) (53, 26) ++ row 1 1 (10, 2) (21, 6) (53, 26) (0, 0)
 
--- 001, B.1.2: root, ns:child1, renamed to the second URI, with xmlns:ns of the first, and ns:child2 below it.
+-- B.1.2: root, ns:child1, renamed to the second URI, with xmlns:ns of the first, and ns:child2 below it.
 abbrev tree2 : ℕ × ℕ → List ℕ
 tree2 value =
     row 1 NONE (0, 0) (0, 4) (0, 0) (0, 0) ++ row 1 0 (10, 2) (15, 6) (53, 26) (0, 0) ++ row 13 1 (0, 0) (10, 2) (0, 0) value
@@ -110,10 +109,10 @@ cases =
     -- M6: B with a 5-byte output pool, and with 6 bytes
     ∷ record { table = exampleB; pool = ascii "aUb"; tableSize = 30; poolSize = 5; answer = 11 ∷ 0 ∷ 0 ∷ 0 ∷ []; outTable = replicate 30 0; outPool = replicate 5 0 }
     ∷ record { table = exampleB; pool = ascii "aUb"; tableSize = 30; poolSize = 6; answer = 0 ∷ 0 ∷ 3 ∷ 6 ∷ []; outTable = exampleB′; outPool = ascii "aUbNS1" }
-    -- M7: 001's child2 gets its own xmlns:ns
-    ∷ record { table = tree1; pool = names001; tableSize = 80; poolSize = 79; answer = 0 ∷ 0 ∷ 8 ∷ 79 ∷ []; outTable = tree1 ++ row 13 6 (0, 0) (10, 2) (0, 0) (53, 26); outPool = names001 }
-    -- M8: 001's child1 declaration is changed, child2 gets one
-    ∷ record { table = tree2 (27, 26); pool = names001; tableSize = 50; poolSize = 79; answer = 0 ∷ 0 ∷ 5 ∷ 79 ∷ []; outTable = tree2 (53, 26) ++ row 13 3 (0, 0) (10, 2) (0, 0) (27, 26); outPool = names001 }
+    -- M7: B.1.1's child2 gets its own xmlns:ns
+    ∷ record { table = tree1; pool = treeNames; tableSize = 80; poolSize = 79; answer = 0 ∷ 0 ∷ 8 ∷ 79 ∷ []; outTable = tree1 ++ row 13 6 (0, 0) (10, 2) (0, 0) (53, 26); outPool = treeNames }
+    -- M8: B.1.2's child1 declaration is changed, child2 gets one
+    ∷ record { table = tree2 (27, 26); pool = treeNames; tableSize = 50; poolSize = 79; answer = 0 ∷ 0 ∷ 5 ∷ 79 ∷ []; outTable = tree2 (53, 26) ++ row 13 3 (0, 0) (10, 2) (0, 0) (27, 26); outPool = treeNames }
     -- M9: the element without URI gets xmlns=""
     ∷ record { table = exampleM9; pool = ascii "aUb"; tableSize = 40; poolSize = 3; answer = 0 ∷ 0 ∷ 4 ∷ 3 ∷ []; outTable = exampleM9 ++ row 13 2 (0, 0) (0, 0) (0, 0) (0, 0); outPool = ascii "aUb" }
     -- M10: an attribute with XML-URI and no prefix gets xml
@@ -124,6 +123,6 @@ cases =
     ∷ record { table = row 1 0 (0, 0) (0, 1) (0, 0) (0, 0); pool = ascii "a"; tableSize = 10; poolSize = 1; answer = 2 ∷ 0 ∷ 0 ∷ 0 ∷ []; outTable = replicate 10 0; outPool = replicate 1 0 }
     ∷ []
 
--- Every case comes out as document 01 says.
+-- Every case comes out as RULES 7.1 says.
 unfoldable pub allPass : Bool
 allPass = allOf passes cases

@@ -1,14 +1,13 @@
--- Demand 3, in the words of document 01's last paragraphs on normalization. It speaks of outcomes: the answer and the whole
--- output buffers.
+-- RULES 6, demands: demand 3. It speaks of outcomes: the answer and the whole output buffers.
 use Prim.Native.Nat.{ℕ, zero, suc, _*_, _<_}
 use mathlib.Core.Path.{_≡_}
-use mathlib.Core.Bool.{Bool, true, false, cond, _&&_, _||_, not}
+use mathlib.Core.Bool.{Bool, cond, _&&_, _||_, not}
 use mathlib.Core.List.{List, [], _∷_, map}
 use lib.ListN.{length, take, drop}
 use lib.Dec.{T, eqb, ltb}
 use Rattle.rules.specs.Lists.{filtered, isOneOf, isEmpty, sameBytes}
-use Rattle.rules.specs.Table.{NONE, Field, Node, fields, nodes, node}
-use Rattle.rules.specs.Answers.{Number, normalizedNumber, normalizedRows, normalizedBytes}
+use Rattle.rules.specs.Table.{WIDTH, NONE, ELEMENT, ATTRIBUTE, DECLARATION, Field, Node, fields, nodes, node}
+use Rattle.rules.specs.Answers.{normalizedNumber, normalizedRows, normalizedBytes}
 use Rattle.rules.specs.Lookups.{scopeAt, inScopeUri, uriBytes}
 use Rattle.rules.specs.Normalization.{Outcome, normalized}
 
@@ -18,26 +17,32 @@ succeeded o = eqb (normalizedNumber (o .answer) .number) 0
 
 -- The result: the rows that the answered part of the output table has over the answered part of the output pool.
 unfoldable pub resultRows : Outcome → List Node
-resultRows o = nodes (take (10 * normalizedRows (o .answer)) (o .table)) (take (normalizedBytes (o .answer)) (o .pool))
+resultRows o = nodes (take (WIDTH * normalizedRows (o .answer)) (o .table)) (take (normalizedBytes (o .answer)) (o .pool))
 
 -- An element means its URI if the in-scope URI of its prefix (or default) is it, none for none.
+unfoldable pub elementMeansIn : List Node → Node → Bool
+elementMeansIn scope n = sameBytes (uriBytes (inScopeUri scope (n .prefix .bytes))) (n .uri .bytes)
+
 unfoldable pub elementMeans : List Node → ℕ → Bool
-elementMeans ns e = sameBytes (uriBytes (inScopeUri (scopeAt ns e) (node ns e .prefix .bytes))) (node ns e .uri .bytes)
+elementMeans ns e = elementMeansIn (scopeAt ns e) (node ns e)
 
 -- An attribute does if it has neither URI nor prefix, or if it has both and the in-scope URI of its prefix at its owner is its URI.
+unfoldable pub attributeMeansIn : List Node → Node → Bool
+attributeMeansIn scope n =
+    (isEmpty (n .uri .bytes) && isEmpty (n .prefix .bytes))
+    || (not (isEmpty (n .uri .bytes)) && not (isEmpty (n .prefix .bytes))
+    && sameBytes (uriBytes (inScopeUri scope (n .prefix .bytes))) (n .uri .bytes))
+
 unfoldable pub attributeMeans : List Node → ℕ → Bool
-attributeMeans ns a =
-    (isEmpty (node ns a .uri .bytes) && isEmpty (node ns a .prefix .bytes))
-    || (not (isEmpty (node ns a .uri .bytes)) && not (isEmpty (node ns a .prefix .bytes))
-    && sameBytes (uriBytes (inScopeUri (scopeAt ns (node ns a .parent)) (node ns a .prefix .bytes))) (node ns a .uri .bytes))
+attributeMeans ns a = attributeMeansIn (scopeAt ns (node ns a .parent)) (node ns a)
 
 -- Row r, an element or an attribute, means its URI.
 unfoldable pub means : List Node → ℕ → Bool
-means ns r = cond (eqb (node ns r .type) 1) (elementMeans ns r) (attributeMeans ns r)
+means ns r = cond (eqb (node ns r .type) ELEMENT) (elementMeans ns r) (attributeMeans ns r)
 
 -- The row is of type 1, or of type 2 with an owner.
 unfoldable pub isBound : Node → Bool
-isBound n = eqb (n .type) 1 || (eqb (n .type) 2 && not (eqb (n .parent) NONE))
+isBound n = eqb (n .type) ELEMENT || (eqb (n .type) ATTRIBUTE && not (eqb (n .parent) NONE))
 
 -- Row r has in the result the input's type, parent, and bytes of URI and local name, and means its URI in scope there.
 pub record KeepsMeaning (input result : List Node) (r : ℕ) : Type 0 where
@@ -79,7 +84,7 @@ selfAndAncestors ns r = upFrom (suc r) ns r
 unfoldable pub concerns : List Node → ℕ → ℕ → Bool
 concerns ns e r =
     isOneOf (selfAndAncestors ns e) r
-    || (isOneOf (2 ∷ 13 ∷ []) (node ns r .type) && isOneOf (selfAndAncestors ns e) (node ns r .parent))
+    || (isOneOf (ATTRIBUTE ∷ DECLARATION ∷ []) (node ns r .type) && isOneOf (selfAndAncestors ns e) (node ns r .parent))
 
 -- Two tables of equal row count agree on every row that in either of them concerns row e.
 pub record AgreeAt (ns ms : List Node) (e : ℕ) : Type 0 where

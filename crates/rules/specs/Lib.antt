@@ -1,4 +1,4 @@
--- Document 01 as definitions, a file for each of its sections and in its order.
+-- The rules as definitions: a file for each of the first sections of docs/RULES.md, in their order; comments cite it as RULES.
 pub mod Lists
 pub mod Table
 pub mod Answers

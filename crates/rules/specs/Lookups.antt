@@ -1,16 +1,15 @@
--- Document 01, "Lookups".
+-- RULES 4, lookups.
 use Prim.Native.Nat.{ℕ, zero, suc}
-use mathlib.Core.Bool.{Bool, true, false, cond, _&&_, _||_, not}
+use mathlib.Core.Bool.{Bool, true, false, cond, _&&_, not}
 use mathlib.Core.List.{List, [], _∷_}
 use mathlib.Core.Option.{Option, none, some}
 use lib.ListN.{length}
-use lib.Dec.{eqb, ltb}
+use lib.Dec.{eqb, ltb, leb}
 use Rattle.rules.specs.Lists.{firstThat, filtered, gathered, numbersFrom, isOneOf, isEmpty, sameBytes}
-use Rattle.rules.specs.Table.{NONE, xmlUri, xmlnsUri, xmlPrefix, xmlnsPrefix, part, Field, Node, nodes, node, isElement}
-use Rattle.rules.specs.Refusals.{checked}
+use Rattle.rules.specs.Table.{NONE, ELEMENT, ATTRIBUTE, ENTITY-REFERENCE, ENTITY, DOCUMENT, DOCUMENT-TYPE, DOCUMENT-FRAGMENT, NOTATION, DECLARATION, LEVEL1-ELEMENT, LEVEL1-ATTRIBUTE, xmlUri, xmlnsUri, xmlPrefix, xmlnsPrefix, part, Field, Node, rowCount, nodes, node, isElement}
+use Rattle.rules.specs.Refusals.{refusedIf, firstRefusal, unlessRefused, checkRefusal}
 use Rattle.rules.specs.declared.Place.{Place}
 use Rattle.rules.specs.declared.Refusal.{Refusal}
-use Rattle.rules.specs.declared.Checked.{Checked}
 use Rattle.rules.specs.declared.Located.{Located}
 use Rattle.rules.specs.declared.Tested.{Tested}
 use Rattle.rules.specs.declared.InScope.{InScope}
@@ -22,7 +21,7 @@ climb zero ns r = []
 climb (suc steps) ns r =
     let above = climb steps ns (node ns r .parent) in
     let outward = cond (ltb (node ns r .parent) r) above [] in
-    cond (isElement (node ns r .type)) (r ∷ outward) (cond (eqb (node ns r .type) 5) outward [])
+    cond (isElement (node ns r .type)) (r ∷ outward) (cond (eqb (node ns r .type) ENTITY-REFERENCE) outward [])
 
 unfoldable pub elementsFrom : List Node → ℕ → List ℕ
 elementsFrom ns r = climb (suc r) ns r
@@ -47,15 +46,15 @@ elementChild ns r =
 -- the nearest ancestor element.
 unfoldable pub startElement : List Node → ℕ → Option ℕ
 startElement ns r =
-    cond (isOneOf (1 ∷ 257 ∷ []) (node ns r .type)) (some r)
-    (cond (isOneOf (2 ∷ 258 ∷ 13 ∷ []) (node ns r .type)) (owner ns r)
-    (cond (eqb (node ns r .type) 9) (elementChild ns r)
-    (cond (isOneOf (6 ∷ 10 ∷ 11 ∷ 12 ∷ []) (node ns r .type)) none
+    cond (isOneOf (ELEMENT ∷ LEVEL1-ELEMENT ∷ []) (node ns r .type)) (some r)
+    (cond (isOneOf (ATTRIBUTE ∷ LEVEL1-ATTRIBUTE ∷ DECLARATION ∷ []) (node ns r .type)) (owner ns r)
+    (cond (eqb (node ns r .type) DOCUMENT) (elementChild ns r)
+    (cond (isOneOf (ENTITY ∷ DOCUMENT-TYPE ∷ DOCUMENT-FRAGMENT ∷ NOTATION ∷ []) (node ns r .type)) none
     (ancestorElement ns r))))
 
 -- The declarations of element e, in row order.
 abbrev pub isDeclarationOf : ℕ → Node → Bool
-isDeclarationOf e n = eqb (n .type) 13 && eqb (n .parent) e
+isDeclarationOf e n = eqb (n .type) DECLARATION && eqb (n .parent) e
 
 unfoldable pub ownDeclarations : List Node → ℕ → List Node
 ownDeclarations ns e = filtered (isDeclarationOf e) ns
@@ -66,7 +65,7 @@ declares prefix d = sameBytes (d .local .bytes) prefix
 
 -- A DOM Level 1 element's own name is skipped in all lookups.
 abbrev pub hasName : Node → Bool
-hasName element = eqb (element .type) 1
+hasName element = eqb (element .type) ELEMENT
 
 -- A value, or nothing when it is empty.
 abbrev pub unlessEmpty : Field → Option Field
@@ -81,14 +80,17 @@ abbrev pub declaredValueOr : Option Node → Option Field → Option Field
 declaredValueOr none further = further
 declaredValueOr (some d) further = unlessEmpty (d .value)
 
+-- The element has a URI, and its prefix equals the query.
+abbrev pub namesUri : List ℕ → Node → Bool
+namesUri prefix element = hasName element && not (isEmpty (element .uri .bytes)) && sameBytes (element .prefix .bytes) prefix
+
 -- URI of a prefix, over the elements from the start element outward. At each: if it has a URI and its prefix equals the
 -- query, that URI. Else if it has a declaration of that prefix, its value, or nothing when the value is empty. Else the next
 -- ancestor element.
 unfoldable pub uriOfPrefix : List Node → List ℕ → List ℕ → Option Field
 uriOfPrefix ns prefix [] = none
 uriOfPrefix ns prefix (e ∷ outward) =
-    cond (hasName (node ns e) && not (isEmpty (node ns e .uri .bytes)) && sameBytes (node ns e .prefix .bytes) prefix)
-    (some (node ns e .uri))
+    cond (namesUri prefix (node ns e)) (some (node ns e .uri))
     (declaredValueOr (firstThat (declares prefix) (ownDeclarations ns e)) (uriOfPrefix ns prefix outward))
 
 -- The prefix's URI, looked up from the start element, is this one.
@@ -99,20 +101,28 @@ abbrev pub declaredPrefixOr : Option Node → Option Field → Option Field
 declaredPrefixOr none further = further
 declaredPrefixOr (some d) further = some (d .local)
 
+-- The element's URI matches, it has a prefix, and the URI of that prefix, looked up from the start element, is the query.
+abbrev pub namesPrefix : List Node → List ℕ → List ℕ → Node → Bool
+namesPrefix ns start uri element =
+    hasName element && sameBytes (element .uri .bytes) uri && not (isEmpty (element .prefix .bytes))
+    && leadsTo ns start uri (element .prefix .bytes)
+
+-- The declaration is of a non-empty prefix and has this value.
+abbrev pub binds : List ℕ → Node → Bool
+binds uri d = not (isEmpty (d .local .bytes)) && sameBytes (d .value .bytes) uri
+
+-- The declaration is of a non-empty prefix with value equal to the query, and the same condition.
+abbrev pub givesPrefix : List Node → List ℕ → List ℕ → Node → Bool
+givesPrefix ns start uri d = binds uri d && leadsTo ns start uri (d .local .bytes)
+
 -- Prefix of a URI. At each element outward: its own prefix if its URI matches, it has a prefix, and the URI of that prefix,
 -- looked up from the start element, is the query. Then its declarations of non-empty prefixes in row order with value equal
 -- to the query and the same condition.
 unfoldable pub prefixAmong : List Node → List ℕ → List ℕ → List ℕ → Option Field
 prefixAmong ns start uri [] = none
 prefixAmong ns start uri (e ∷ outward) =
-    cond (hasName (node ns e) && sameBytes (node ns e .uri .bytes) uri && not (isEmpty (node ns e .prefix .bytes))
-    && leadsTo ns start uri (node ns e .prefix .bytes))
-    (some (node ns e .prefix))
-    (declaredPrefixOr
-    (firstThat
-    (λ d. not (isEmpty (d .local .bytes)) && sameBytes (d .value .bytes) uri && leadsTo ns start uri (d .local .bytes))
-    (ownDeclarations ns e))
-    (prefixAmong ns start uri outward))
+    cond (namesPrefix ns start uri (node ns e)) (some (node ns e .prefix))
+    (declaredPrefixOr (firstThat (givesPrefix ns start uri) (ownDeclarations ns e)) (prefixAmong ns start uri outward))
 
 -- Empty query: nothing.
 unfoldable pub prefixOfUri : List Node → List ℕ → List ℕ → Option Field
@@ -122,17 +132,24 @@ abbrev pub valueEqualsOr : List ℕ → Option Node → Bool → Bool
 valueEqualsOr uri none further = further
 valueEqualsOr uri (some d) further = sameBytes (d .value .bytes) uri
 
+-- The element decides by its own name: it has no prefix.
+abbrev pub namesDefault : Node → Bool
+namesDefault element = hasName element && isEmpty (element .prefix .bytes)
+
 -- Is this the default? At each element outward: with no prefix, yes exactly if its URI equals the query. Else with a default
 -- declaration, yes exactly if its value equals the query. Else outward; at the end, no. Empty equals empty.
 unfoldable pub isDefault : List Node → List ℕ → List ℕ → Bool
 isDefault ns uri [] = false
 isDefault ns uri (e ∷ outward) =
-    cond (hasName (node ns e) && isEmpty (node ns e .prefix .bytes)) (sameBytes (node ns e .uri .bytes) uri)
+    cond (namesDefault (node ns e)) (sameBytes (node ns e .uri .bytes) uri)
     (valueEqualsOr uri (firstThat (declares []) (ownDeclarations ns e)) (isDefault ns uri outward))
 
 -- What is in scope at an element: the declarations of the elements outward, nearest element first, in row order within one.
+unfoldable pub scopeOf : List Node → List ℕ → List Node
+scopeOf ns elements = gathered (ownDeclarations ns) elements
+
 unfoldable pub scopeAt : List Node → ℕ → List Node
-scopeAt ns e = gathered (ownDeclarations ns) (elementsFrom ns e)
+scopeAt ns e = scopeOf ns (elementsFrom ns e)
 
 -- What an in-scope lookup finds: a field of a declaration, a built-in, or none.
 pub data Binding : Type 0 where
@@ -166,9 +183,7 @@ uriBytes unbound = []
 
 -- The declaration is of a non-empty prefix, has this value, and its prefix has this in-scope URI.
 unfoldable pub serves : List Node → List ℕ → Node → Bool
-serves scope uri d =
-    not (isEmpty (d .local .bytes)) && sameBytes (d .value .bytes) uri
-    && sameBytes (uriBytes (inScopeUri scope (d .local .bytes))) uri
+serves scope uri d = binds uri d && sameBytes (uriBytes (inScopeUri scope (d .local .bytes))) uri
 
 abbrev pub prefixOf : Option Node → Binding
 prefixOf none = unbound
@@ -210,57 +225,42 @@ outwardFrom ns (some e) = elementsFrom ns e
 unfoldable pub lookupElements : List Node → ℕ → List ℕ
 lookupElements ns r = outwardFrom ns (startElement ns r)
 
--- The scope at the start element of row r, if it has one.
-abbrev pub scopeFrom : List Node → Option ℕ → Option (List Node)
-scopeFrom ns none = none
-scopeFrom ns (some e) = some (scopeAt ns e)
-
-abbrev pub ifInScope : Option (List Node) → (List Node → Binding) → Binding
-ifInScope none lookup = unbound
-ifInScope (some scope) lookup = lookup scope
+-- Without a start element nothing is found, built-ins included.
+abbrev pub ifStarted : List ℕ → Binding → Binding
+ifStarted [] found = unbound
+ifStarted (e ∷ outward) found = found
 
 -- The refusal of a lookup from row r: the check's, or 8.
-abbrev pub orNoSuchRow : Checked → Bool → Option Refusal
-orNoSuchRow (Checked.Refused x) inTable = some x
-orNoSuchRow Checked.Accepted true = none
-orNoSuchRow Checked.Accepted false = some Refusal.NoSuchRow
-
 unfoldable pub lookupRefusal : List ℕ → List ℕ → ℕ → Option Refusal
-lookupRefusal table pool r = orNoSuchRow (checked table pool) (ltb r (length (nodes table pool)))
+lookupRefusal table pool r =
+    firstRefusal (checkRefusal table pool ∷ refusedIf (leb (rowCount table) r) Refusal.NoSuchRow ∷ [])
 
-abbrev pub locatedUnless : Option Refusal → Option Field → Located
-locatedUnless none found = located found
-locatedUnless (some x) found = Located.Refused x
+unfoldable pub uriOfPrefixAt : List ℕ → List ℕ → ℕ → List ℕ → Located
+uriOfPrefixAt table pool r prefix =
+    unlessRefused (lookupRefusal table pool r) Located.Refused
+    (located (uriOfPrefix (nodes table pool) prefix (lookupElements (nodes table pool) r)))
 
-abbrev pub testedUnless : Option Refusal → Bool → Tested
-testedUnless none yes? = yesOrNo yes?
-testedUnless (some x) yes? = Tested.Refused x
+unfoldable pub prefixOfUriAt : List ℕ → List ℕ → ℕ → List ℕ → Located
+prefixOfUriAt table pool r uri =
+    unlessRefused (lookupRefusal table pool r) Located.Refused
+    (located (prefixOfUri (nodes table pool) uri (lookupElements (nodes table pool) r)))
 
-abbrev pub boundUnless : Option Refusal → Binding → InScope
-boundUnless none found = bound found
-boundUnless (some x) found = InScope.Refused x
+unfoldable pub isDefaultAt : List ℕ → List ℕ → ℕ → List ℕ → Tested
+isDefaultAt table pool r uri =
+    unlessRefused (lookupRefusal table pool r) Tested.Refused
+    (yesOrNo (isDefault (nodes table pool) uri (lookupElements (nodes table pool) r)))
 
-unfoldable pub lookupUri : List ℕ → List ℕ → ℕ → List ℕ → Located
-lookupUri table pool r prefix =
-    locatedUnless (lookupRefusal table pool r) (uriOfPrefix (nodes table pool) prefix (lookupElements (nodes table pool) r))
+unfoldable pub inScopeUriAt : List ℕ → List ℕ → ℕ → List ℕ → InScope
+inScopeUriAt table pool r prefix =
+    let elements = lookupElements (nodes table pool) r in
+    unlessRefused (lookupRefusal table pool r) InScope.Refused
+    (bound (ifStarted elements (inScopeUri (scopeOf (nodes table pool) elements) prefix)))
 
-unfoldable pub lookupPrefix : List ℕ → List ℕ → ℕ → List ℕ → Located
-lookupPrefix table pool r uri =
-    locatedUnless (lookupRefusal table pool r) (prefixOfUri (nodes table pool) uri (lookupElements (nodes table pool) r))
-
-unfoldable pub testDefault : List ℕ → List ℕ → ℕ → List ℕ → Tested
-testDefault table pool r uri =
-    testedUnless (lookupRefusal table pool r) (isDefault (nodes table pool) uri (lookupElements (nodes table pool) r))
-
-unfoldable pub lookupInScopeUri : List ℕ → List ℕ → ℕ → List ℕ → InScope
-lookupInScopeUri table pool r prefix =
-    boundUnless (lookupRefusal table pool r)
-    (ifInScope (scopeFrom (nodes table pool) (startElement (nodes table pool) r)) (λ scope. inScopeUri scope prefix))
-
-unfoldable pub lookupInScopePrefix : List ℕ → List ℕ → ℕ → List ℕ → InScope
-lookupInScopePrefix table pool r uri =
-    boundUnless (lookupRefusal table pool r)
-    (ifInScope (scopeFrom (nodes table pool) (startElement (nodes table pool) r)) (λ scope. inScopePrefix scope uri))
+unfoldable pub inScopePrefixAt : List ℕ → List ℕ → ℕ → List ℕ → InScope
+inScopePrefixAt table pool r uri =
+    let elements = lookupElements (nodes table pool) r in
+    unlessRefused (lookupRefusal table pool r) InScope.Refused
+    (bound (ifStarted elements (inScopePrefix (scopeOf (nodes table pool) elements) uri)))
 
 -- The part of the pool that an answer of the first two lookups stands for; empty for nothing and for a refusal.
 unfoldable pub locatedPart : List ℕ → Located → List ℕ

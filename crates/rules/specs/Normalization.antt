@@ -1,16 +1,15 @@
--- Document 01, "Normalization", with refusals 9 to 11.
-use Prim.Native.Nat.{ℕ, zero, suc, _+_, _-_, _*_, _/_, _%_}
-use mathlib.Core.Bool.{Bool, true, false, cond, _&&_, _||_, not}
+-- RULES 5, normalization, with refusals 9 to 11.
+use Prim.Native.Nat.{ℕ, zero, suc, _+_, _-_, _/_, _%_}
+use mathlib.Core.Bool.{Bool, cond, _&&_, _||_, not}
 use mathlib.Core.List.{List, [], _∷_, _++_, map}
-use mathlib.Core.Option.{Option, none, some}
+use mathlib.Core.Option.{Option}
 use lib.ListN.{length, set, replicate}
 use lib.Dec.{eqb, ltb}
-use Rattle.rules.specs.Lists.{ascii, firstThat, anyOf, numbersFrom, isEmpty, sameBytes}
-use Rattle.rules.specs.Table.{xmlPrefix, xmlnsPrefix, Field, noField, Node, nodes, words, node, isLevel1}
-use Rattle.rules.specs.Refusals.{checked}
+use Rattle.rules.specs.Lists.{ascii, anyOf, isEmpty, sameBytes}
+use Rattle.rules.specs.Table.{WIDTH, MOST-ROWS, MOST-BYTES, ELEMENT, ATTRIBUTE, DECLARATION, xmlPrefix, xmlnsPrefix, Field, noField, Node, nodes, words, node, isLevel1}
+use Rattle.rules.specs.Refusals.{refusedIf, firstRefusal, lowestRefusal, unlessRefused, checkRefusal}
 use Rattle.rules.specs.Lookups.{isDeclarationOf, declares, scopeAt, Binding, declared, builtInXml, builtInXmlns, unbound, inScopeUri, uriBytes, inScopePrefix}
 use Rattle.rules.specs.declared.Refusal.{Refusal}
-use Rattle.rules.specs.declared.Checked.{Checked}
 use Rattle.rules.specs.declared.Normalized.{Normalized}
 
 -- What normalization has made so far: the rows, the new ones at the end, and the pool.
@@ -20,7 +19,7 @@ pub record State : Type 0 where
 
 -- A new row: type 13, parent the element, prefix and URI fields 0.
 abbrev pub newDeclaration : ℕ → Field → Field → Node
-newDeclaration e prefix uri = record { type = 13; parent = e; prefix = noField; local = prefix; uri = noField; value = uri }
+newDeclaration e prefix uri = record { type = DECLARATION; parent = e; prefix = noField; local = prefix; uri = noField; value = uri }
 
 -- A row with another value.
 abbrev pub withValue : Field → Node → Node
@@ -139,7 +138,7 @@ perform e a repair s =
     }
 
 abbrev pub isAttributeOf : ℕ → Node → Bool
-isAttributeOf e n = eqb (n .type) 2 && eqb (n .parent) e
+isAttributeOf e n = eqb (n .type) ATTRIBUTE && eqb (n .parent) e
 
 -- Row a, if it is an attribute of element e.
 unfoldable pub repairAttribute : ℕ → ℕ → State → State
@@ -156,7 +155,7 @@ repairAttributes e (suc count) s = repairAttribute e count (repairAttributes e c
 -- Row r, if it is an element; the table has this many rows before any is appended.
 unfoldable pub normalizeRow : ℕ → ℕ → State → State
 normalizeRow total r s =
-    cond (eqb (node (s .rows) r .type) 1)
+    cond (eqb (node (s .rows) r .type) ELEMENT)
     (repairAttributes r total (record { rows = repairElement r (s .rows); pool = s .pool }))
     s
 
@@ -192,37 +191,34 @@ success tableSize poolSize s =
       pool = padded poolSize (s .pool);
     }
 
+-- 9: the lowest row of type 257 or 258.
+unfoldable pub level1Refusal : List Node → Option Refusal
+level1Refusal ns = lowestRefusal (λ r. refusedIf (isLevel1 (node ns r .type)) (Refusal.Level1 (record { 0 = r }))) (length ns)
+
 -- 10: the result needs more than 1,024 rows, or more than the whole rows of the output table.
 unfoldable pub tooManyRows : ℕ → State → Bool
-tooManyRows tableSize s = ltb 1024 (length (s .rows)) || ltb (tableSize / 10) (length (s .rows))
+tooManyRows tableSize s = ltb MOST-ROWS (length (s .rows)) || ltb (tableSize / WIDTH) (length (s .rows))
 
 -- 11: the result needs more than 32,768 pool bytes, or more than the output pool.
 unfoldable pub tooManyBytes : ℕ → State → Bool
-tooManyBytes poolSize s = ltb 32768 (length (s .pool)) || ltb poolSize (length (s .pool))
+tooManyBytes poolSize s = ltb MOST-BYTES (length (s .pool)) || ltb poolSize (length (s .pool))
 
 -- Both are judged by the finished result, 10 first.
-unfoldable pub fitted : ℕ → ℕ → State → Outcome
-fitted tableSize poolSize s =
-    cond (tooManyRows tableSize s) (refusal tableSize poolSize Refusal.RowRoom)
-    (cond (tooManyBytes poolSize s) (refusal tableSize poolSize Refusal.PoolRoom)
-    (success tableSize poolSize s))
+unfoldable pub roomRefusal : ℕ → ℕ → State → Option Refusal
+roomRefusal tableSize poolSize s =
+    firstRefusal (refusedIf (tooManyRows tableSize s) Refusal.RowRoom ∷ refusedIf (tooManyBytes poolSize s) Refusal.PoolRoom ∷ [])
 
--- 9: the lowest row of type 257 or 258.
-unfoldable pub level1Row : List Node → Option ℕ
-level1Row ns = firstThat (λ r. isLevel1 (node ns r .type)) (numbersFrom 0 (length ns))
-
-abbrev pub outcomeUnlessLevel1 : ℕ → ℕ → Option ℕ → Outcome → Outcome
-outcomeUnlessLevel1 tableSize poolSize none result = result
-outcomeUnlessLevel1 tableSize poolSize (some r) result = refusal tableSize poolSize (Refusal.Level1 (record { 0 = r }))
-
-abbrev pub outcomeIf : ℕ → ℕ → Checked → Outcome → Outcome
-outcomeIf tableSize poolSize Checked.Accepted result = result
-outcomeIf tableSize poolSize (Checked.Refused x) result = refusal tableSize poolSize x
+unfoldable pub normalizationRefusal : List ℕ → List ℕ → ℕ → ℕ → Option Refusal
+normalizationRefusal table pool tableSize poolSize =
+    firstRefusal
+    (checkRefusal table pool
+    ∷ level1Refusal (nodes table pool)
+    ∷ roomRefusal tableSize poolSize (normalForm (nodes table pool) pool)
+    ∷ [])
 
 -- Normalization of a table and its pool into an output table of so many words and an output pool of so many bytes: the
 -- check's refusals, 9, 10, 11, or the result.
 unfoldable pub normalized : List ℕ → List ℕ → ℕ → ℕ → Outcome
 normalized table pool tableSize poolSize =
-    outcomeIf tableSize poolSize (checked table pool)
-    (outcomeUnlessLevel1 tableSize poolSize (level1Row (nodes table pool))
-    (fitted tableSize poolSize (normalForm (nodes table pool) pool)))
+    unlessRefused (normalizationRefusal table pool tableSize poolSize) (refusal tableSize poolSize)
+    (success tableSize poolSize (normalForm (nodes table pool) pool))

@@ -1,18 +1,42 @@
--- Document 01, "Refusal numbers": the check, refusals 1 to 7. Refusal 8 stands with the lookups, 9 to 11 with normalization.
-use Prim.Native.Nat.{ℕ, zero, suc, _+_, _%_}
+-- RULES 3, refusals: how they are ordered, and the check, refusals 1 to 7. Refusal 8 stands with the lookups,
+-- 9 to 11 with normalization.
+use Prim.Native.Nat.{ℕ, _+_, _*_, _%_}
 use mathlib.Core.Bool.{Bool, true, false, cond, _&&_, _||_, not}
-use mathlib.Core.List.{List, [], _∷_}
+use mathlib.Core.List.{List, [], _∷_, _++_, map}
 use mathlib.Core.Option.{Option, none, some}
 use lib.ListN.{length, take}
 use lib.Dec.{eqb, ltb, leb}
 use Rattle.rules.specs.Lists.{firstThat, anyOf, allOf, numbersFrom, isOneOf, isEmpty, sameBytes}
-use Rattle.rules.specs.Table.{NONE, xmlUri, xmlnsUri, xmlPrefix, xmlnsPrefix, Field, Node, fields, nodes, node, isElement, isLevel1, ParentRule, allowedParents}
+use Rattle.rules.specs.Table.{WIDTH, MOST-ROWS, MOST-BYTES, NONE, ELEMENT, ATTRIBUTE, DOCUMENT, DECLARATION, LEVEL1-ELEMENT, LEVEL1-ATTRIBUTE, xmlUri, xmlnsUri, xmlPrefix, xmlnsPrefix, Field, Node, fields, rowCount, nodes, node, isElement, isLevel1, ParentRule, allowedParents}
 use Rattle.rules.specs.declared.Refusal.{Refusal}
 use Rattle.rules.specs.declared.Checked.{Checked}
 
+-- Order. What an operation is refused for is a refusal or none; it is the first of a list, in the order in which they are tried.
+
+-- Where the test is met, this refusal.
+abbrev pub refusedIf : Bool → Refusal → Option Refusal
+refusedIf test x = cond test (some x) none
+
+abbrev pub firstRefusal : List (Option Refusal) → Option Refusal
+firstRefusal [] = none
+firstRefusal (none ∷ later) = firstRefusal later
+firstRefusal (some x ∷ later) = some x
+
+-- Rows ascending: what the lowest of so many rows is refused for.
+abbrev pub lowestRefusal : (ℕ → Option Refusal) → ℕ → Option Refusal
+lowestRefusal row count = firstRefusal (map row (numbersFrom 0 count))
+
+-- What is answered: the refusal, if there is one.
+abbrev pub unlessRefused : {A : Type 0} → Option Refusal → (Refusal → A) → A → A
+unlessRefused none refused answer = answer
+unlessRefused (some x) refused answer = refused x
+
+abbrev pub verdict : Option Refusal → Checked
+verdict o = unlessRefused o Checked.Refused Checked.Accepted
+
 -- 1: the word count is not a multiple of 10 or above 10,240, or the pool is above 32,768.
 unfoldable pub badSize : List ℕ → List ℕ → Bool
-badSize table pool = not (eqb (length table % 10) 0) || ltb 10240 (length table) || ltb 32768 (length pool)
+badSize table pool = not (eqb (length table % WIDTH) 0) || ltb (WIDTH * MOST-ROWS) (length table) || ltb MOST-BYTES (length pool)
 
 -- 2: an unknown type; a parent that is not NONE and not less than the row; a parent type that is not allowed; a second
 -- element under one document.
@@ -30,7 +54,7 @@ parentAllowed ns r parent (some rule) =
 -- Row r is an element under a document, and so is an earlier row under the same document.
 unfoldable pub secondElement : List Node → ℕ → Bool
 secondElement ns r =
-    isElement (node ns r .type) && eqb (node ns (node ns r .parent) .type) 9
+    isElement (node ns r .type) && eqb (node ns (node ns r .parent) .type) DOCUMENT
     && anyOf (λ earlier. isElement (earlier .type) && eqb (earlier .parent) (node ns r .parent)) (take r ns)
 
 unfoldable pub badStructure : List Node → ℕ → Bool
@@ -48,8 +72,8 @@ isFull f = not (eqb (f .size) 0)
 unfoldable pub fullButMustBeEmpty : Node → Bool
 fullButMustBeEmpty n =
     (isElement (n .type) && isFull (n .value))
-    || (isOneOf (13 ∷ 257 ∷ 258 ∷ []) (n .type) && (isFull (n .prefix) || isFull (n .uri)))
-    || (not (isOneOf (1 ∷ 2 ∷ 13 ∷ 257 ∷ 258 ∷ []) (n .type)) && (isFull (n .prefix) || isFull (n .local) || isFull (n .uri)))
+    || (isOneOf (DECLARATION ∷ LEVEL1-ELEMENT ∷ LEVEL1-ATTRIBUTE ∷ []) (n .type) && (isFull (n .prefix) || isFull (n .uri)))
+    || (not (isOneOf (ELEMENT ∷ ATTRIBUTE ∷ DECLARATION ∷ LEVEL1-ELEMENT ∷ LEVEL1-ATTRIBUTE ∷ []) (n .type)) && (isFull (n .prefix) || isFull (n .local) || isFull (n .uri)))
 
 unfoldable pub badFields : ℕ → Node → Bool
 badFields poolLength n = anyOf (badField poolLength) (fields n) || fullButMustBeEmpty n
@@ -76,7 +100,7 @@ goodName colons (b ∷ bs) = isFirstByte colons b && allOf (isNameByte colons) b
 
 unfoldable pub badNames : Node → Bool
 badNames n =
-    (isOneOf (1 ∷ 2 ∷ 257 ∷ 258 ∷ []) (n .type) && isEmpty (n .local .bytes))
+    (isOneOf (ELEMENT ∷ ATTRIBUTE ∷ LEVEL1-ELEMENT ∷ LEVEL1-ATTRIBUTE ∷ []) (n .type) && isEmpty (n .local .bytes))
     || not (goodName (isLevel1 (n .type)) (n .prefix .bytes))
     || not (goodName (isLevel1 (n .type)) (n .local .bytes))
 
@@ -84,19 +108,19 @@ badNames n =
 -- without prefix xml; in type 2, no prefix and local name xmlns.
 unfoldable pub badNamespace : Node → Bool
 badNamespace n =
-    isOneOf (1 ∷ 2 ∷ []) (n .type)
+    isOneOf (ELEMENT ∷ ATTRIBUTE ∷ []) (n .type)
     && ((not (isEmpty (n .prefix .bytes)) && isEmpty (n .uri .bytes))
     || sameBytes (n .uri .bytes) xmlnsUri
     || sameBytes (n .prefix .bytes) xmlnsPrefix
     || (sameBytes (n .prefix .bytes) xmlPrefix && not (sameBytes (n .uri .bytes) xmlUri))
-    || (eqb (n .type) 1 && sameBytes (n .uri .bytes) xmlUri && not (sameBytes (n .prefix .bytes) xmlPrefix))
-    || (eqb (n .type) 2 && isEmpty (n .prefix .bytes) && sameBytes (n .local .bytes) xmlnsPrefix))
+    || (eqb (n .type) ELEMENT && sameBytes (n .uri .bytes) xmlUri && not (sameBytes (n .prefix .bytes) xmlPrefix))
+    || (eqb (n .type) ATTRIBUTE && isEmpty (n .prefix .bytes) && sameBytes (n .local .bytes) xmlnsPrefix))
 
 -- 6: a declaration of xmlns; of xml with a value other than XML-URI; of anything else with XML-URI; of anything with
 -- XMLNS-URI; of a non-empty prefix with empty value.
 unfoldable pub badDeclaration : Node → Bool
 badDeclaration n =
-    eqb (n .type) 13
+    eqb (n .type) DECLARATION
     && (sameBytes (n .local .bytes) xmlnsPrefix
     || (sameBytes (n .local .bytes) xmlPrefix && not (sameBytes (n .value .bytes) xmlUri))
     || (not (sameBytes (n .local .bytes) xmlPrefix) && sameBytes (n .value .bytes) xmlUri)
@@ -109,30 +133,34 @@ unfoldable pub isDouble : Node → Node → Bool
 isDouble n earlier =
     eqb (earlier .parent) (n .parent) && not (eqb (n .parent) NONE) && eqb (earlier .type) (n .type)
     && sameBytes (earlier .local .bytes) (n .local .bytes)
-    && (isOneOf (13 ∷ 258 ∷ []) (n .type) || (eqb (n .type) 2 && sameBytes (earlier .uri .bytes) (n .uri .bytes)))
+    && (isOneOf (DECLARATION ∷ LEVEL1-ATTRIBUTE ∷ []) (n .type) || (eqb (n .type) ATTRIBUTE && sameBytes (earlier .uri .bytes) (n .uri .bytes)))
 
--- The refusal that row r draws, tried for 2 to 7 in that order.
+-- What row r is tried for, in order: its faults, 2 to 5, and then what makes it a declaration or attribute that may not stand
+-- there, 6 and 7.
+unfoldable pub faults : List Node → ℕ → ℕ → List (Option Refusal)
+faults ns poolLength r =
+    refusedIf (badStructure ns r) (Refusal.Structure (record { 0 = r }))
+    ∷ refusedIf (badFields poolLength (node ns r)) (Refusal.Fields (record { 0 = r }))
+    ∷ refusedIf (badNames (node ns r)) (Refusal.Names (record { 0 = r }))
+    ∷ refusedIf (badNamespace (node ns r)) (Refusal.Namespace (record { 0 = r }))
+    ∷ []
+
+unfoldable pub conflicts : List Node → ℕ → List (Option Refusal)
+conflicts ns r =
+    refusedIf (badDeclaration (node ns r)) (Refusal.Declaration (record { 0 = r }))
+    ∷ refusedIf (anyOf (isDouble (node ns r)) (take r ns)) (Refusal.Double (record { 0 = r }))
+    ∷ []
+
 unfoldable pub rowRefusal : List Node → ℕ → ℕ → Option Refusal
-rowRefusal ns poolLength r =
-    cond (badStructure ns r) (some (Refusal.Structure (record { 0 = r })))
-    (cond (badFields poolLength (node ns r)) (some (Refusal.Fields (record { 0 = r })))
-    (cond (badNames (node ns r)) (some (Refusal.Names (record { 0 = r })))
-    (cond (badNamespace (node ns r)) (some (Refusal.Namespace (record { 0 = r })))
-    (cond (badDeclaration (node ns r)) (some (Refusal.Declaration (record { 0 = r })))
-    (cond (anyOf (isDouble (node ns r)) (take r ns)) (some (Refusal.Double (record { 0 = r }))) none)))))
-
--- The answer where the row just tried drew this refusal or none, given the answer for the rows after it.
-abbrev pub refusedOr : Option Refusal → Checked → Checked
-refusedOr none later = later
-refusedOr (some x) later = Checked.Refused x
-
--- The first refusal among the rows listed.
-unfoldable pub checkRows : List Node → ℕ → List ℕ → Checked
-checkRows ns poolLength [] = Checked.Accepted
-checkRows ns poolLength (r ∷ later) = refusedOr (rowRefusal ns poolLength r) (checkRows ns poolLength later)
+rowRefusal ns poolLength r = firstRefusal (faults ns poolLength r ++ conflicts ns r)
 
 -- The check: 1, then rows ascending.
+unfoldable pub checkRefusal : List ℕ → List ℕ → Option Refusal
+checkRefusal table pool =
+    firstRefusal
+    (refusedIf (badSize table pool) Refusal.Size
+    ∷ lowestRefusal (rowRefusal (nodes table pool) (length pool)) (rowCount table)
+    ∷ [])
+
 unfoldable pub checked : List ℕ → List ℕ → Checked
-checked table pool =
-    cond (badSize table pool) (Checked.Refused Refusal.Size)
-    (checkRows (nodes table pool) (length pool) (numbersFrom 0 (length (nodes table pool))))
+checked table pool = verdict (checkRefusal table pool)

@@ -1,13 +1,88 @@
--- Document 01, "The node table".
+-- RULES 1, the node table.
 use Prim.Native.Nat.{ℕ, _+_, _*_, _/_}
 use mathlib.Core.Bool.{Bool, true, false}
 use mathlib.Core.List.{List, [], _∷_, map}
 use lib.ListN.{length, getD, take, drop}
 use Rattle.rules.specs.Lists.{ascii, numbersFrom, gathered, isOneOf}
 
+-- The words of a row, the most rows of a table and the most bytes of a pool.
+abbrev pub WIDTH : ℕ
+WIDTH = 10
+
+abbrev pub MOST-ROWS : ℕ
+MOST-ROWS = 1024
+
+abbrev pub MOST-BYTES : ℕ
+MOST-BYTES = 32768
+
 -- NONE: there is no parent row.
 abbrev pub NONE : ℕ
 NONE = 4294967295
+
+-- The words of a row: the type, the parent or owner, and the offset of each of the four fields, whose length is the word after it.
+abbrev pub TYPE : ℕ
+TYPE = 0
+
+abbrev pub PARENT : ℕ
+PARENT = 1
+
+abbrev pub PREFIX : ℕ
+PREFIX = 2
+
+abbrev pub LOCAL-NAME : ℕ
+LOCAL-NAME = 4
+
+abbrev pub URI : ℕ
+URI = 6
+
+abbrev pub VALUE : ℕ
+VALUE = 8
+
+-- The types: DOM's, a namespace declaration, and a DOM Level 1 element and attribute.
+abbrev pub ELEMENT : ℕ
+ELEMENT = 1
+
+abbrev pub ATTRIBUTE : ℕ
+ATTRIBUTE = 2
+
+abbrev pub TEXT : ℕ
+TEXT = 3
+
+abbrev pub CDATA-SECTION : ℕ
+CDATA-SECTION = 4
+
+abbrev pub ENTITY-REFERENCE : ℕ
+ENTITY-REFERENCE = 5
+
+abbrev pub ENTITY : ℕ
+ENTITY = 6
+
+abbrev pub PROCESSING-INSTRUCTION : ℕ
+PROCESSING-INSTRUCTION = 7
+
+abbrev pub COMMENT : ℕ
+COMMENT = 8
+
+abbrev pub DOCUMENT : ℕ
+DOCUMENT = 9
+
+abbrev pub DOCUMENT-TYPE : ℕ
+DOCUMENT-TYPE = 10
+
+abbrev pub DOCUMENT-FRAGMENT : ℕ
+DOCUMENT-FRAGMENT = 11
+
+abbrev pub NOTATION : ℕ
+NOTATION = 12
+
+abbrev pub DECLARATION : ℕ
+DECLARATION = 13
+
+abbrev pub LEVEL1-ELEMENT : ℕ
+LEVEL1-ELEMENT = 257
+
+abbrev pub LEVEL1-ATTRIBUTE : ℕ
+LEVEL1-ATTRIBUTE = 258
 
 -- XML-URI, XMLNS-URI and the two prefixes that are bound to them
 unfoldable pub xmlUri : List ℕ
@@ -51,7 +126,7 @@ fields n = n .prefix ∷ n .local ∷ n .uri ∷ n .value ∷ []
 
 -- word k of row r
 abbrev pub word : List ℕ → ℕ → ℕ → ℕ
-word table r k = getD table (10 * r + k) 0
+word table r k = getD table (WIDTH * r + k) 0
 
 -- the field of row r whose offset is word k
 abbrev pub fieldAt : List ℕ → List ℕ → ℕ → ℕ → Field
@@ -62,17 +137,17 @@ fieldAt table pool r k =
 abbrev pub nodeAt : List ℕ → List ℕ → ℕ → Node
 nodeAt table pool r =
     record {
-      type = word table r 0;
-      parent = word table r 1;
-      prefix = fieldAt table pool r 2;
-      local = fieldAt table pool r 4;
-      uri = fieldAt table pool r 6;
-      value = fieldAt table pool r 8;
+      type = word table r TYPE;
+      parent = word table r PARENT;
+      prefix = fieldAt table pool r PREFIX;
+      local = fieldAt table pool r LOCAL-NAME;
+      uri = fieldAt table pool r URI;
+      value = fieldAt table pool r VALUE;
     }
 
 -- how many rows the words make
 abbrev pub rowCount : List ℕ → ℕ
-rowCount table = length table / 10
+rowCount table = length table / WIDTH
 
 -- the table's rows
 unfoldable pub nodes : List ℕ → List ℕ → List Node
@@ -98,11 +173,11 @@ node ns r = getD ns r noNode
 
 -- Types. An element is of type 1, or of type 257, a DOM Level 1 element.
 abbrev pub isElement : ℕ → Bool
-isElement type = isOneOf (1 ∷ 257 ∷ []) type
+isElement type = isOneOf (ELEMENT ∷ LEVEL1-ELEMENT ∷ []) type
 
 -- An element or attribute of DOM Level 1.
 abbrev pub isLevel1 : ℕ → Bool
-isLevel1 type = isOneOf (257 ∷ 258 ∷ []) type
+isLevel1 type = isOneOf (LEVEL1-ELEMENT ∷ LEVEL1-ATTRIBUTE ∷ []) type
 
 -- What may stand above a row of a type: nothing (NONE), and rows of which types.
 pub record ParentRule : Type 0 where
@@ -110,22 +185,22 @@ pub record ParentRule : Type 0 where
   pub alone : Bool
   pub parents : List ℕ
 
--- Allowed parents: document 01's table, a line for each type.
+-- RULES 1.5: allowed parents, a line for each type.
 abbrev pub allowedParents : List ParentRule
 allowedParents =
-    record { type = 1; alone = true; parents = 1 ∷ 257 ∷ 5 ∷ 9 ∷ 11 ∷ [] }
-    ∷ record { type = 257; alone = true; parents = 1 ∷ 257 ∷ 5 ∷ 9 ∷ 11 ∷ [] }
-    ∷ record { type = 2; alone = true; parents = 1 ∷ 257 ∷ [] }
-    ∷ record { type = 258; alone = true; parents = 1 ∷ 257 ∷ [] }
-    ∷ record { type = 13; alone = false; parents = 1 ∷ 257 ∷ [] }
-    ∷ record { type = 3; alone = true; parents = 1 ∷ 257 ∷ 5 ∷ 11 ∷ [] }
-    ∷ record { type = 4; alone = true; parents = 1 ∷ 257 ∷ 5 ∷ 11 ∷ [] }
-    ∷ record { type = 5; alone = true; parents = 1 ∷ 257 ∷ 5 ∷ 11 ∷ [] }
-    ∷ record { type = 7; alone = true; parents = 1 ∷ 257 ∷ 5 ∷ 9 ∷ 11 ∷ [] }
-    ∷ record { type = 8; alone = true; parents = 1 ∷ 257 ∷ 5 ∷ 9 ∷ 11 ∷ [] }
-    ∷ record { type = 10; alone = true; parents = 9 ∷ [] }
-    ∷ record { type = 6; alone = true; parents = 10 ∷ [] }
-    ∷ record { type = 12; alone = true; parents = 10 ∷ [] }
-    ∷ record { type = 9; alone = true; parents = [] }
-    ∷ record { type = 11; alone = true; parents = [] }
+    record { type = ELEMENT; alone = true; parents = ELEMENT ∷ LEVEL1-ELEMENT ∷ ENTITY-REFERENCE ∷ DOCUMENT ∷ DOCUMENT-FRAGMENT ∷ [] }
+    ∷ record { type = LEVEL1-ELEMENT; alone = true; parents = ELEMENT ∷ LEVEL1-ELEMENT ∷ ENTITY-REFERENCE ∷ DOCUMENT ∷ DOCUMENT-FRAGMENT ∷ [] }
+    ∷ record { type = ATTRIBUTE; alone = true; parents = ELEMENT ∷ LEVEL1-ELEMENT ∷ [] }
+    ∷ record { type = LEVEL1-ATTRIBUTE; alone = true; parents = ELEMENT ∷ LEVEL1-ELEMENT ∷ [] }
+    ∷ record { type = DECLARATION; alone = false; parents = ELEMENT ∷ LEVEL1-ELEMENT ∷ [] }
+    ∷ record { type = TEXT; alone = true; parents = ELEMENT ∷ LEVEL1-ELEMENT ∷ ENTITY-REFERENCE ∷ DOCUMENT-FRAGMENT ∷ [] }
+    ∷ record { type = CDATA-SECTION; alone = true; parents = ELEMENT ∷ LEVEL1-ELEMENT ∷ ENTITY-REFERENCE ∷ DOCUMENT-FRAGMENT ∷ [] }
+    ∷ record { type = ENTITY-REFERENCE; alone = true; parents = ELEMENT ∷ LEVEL1-ELEMENT ∷ ENTITY-REFERENCE ∷ DOCUMENT-FRAGMENT ∷ [] }
+    ∷ record { type = PROCESSING-INSTRUCTION; alone = true; parents = ELEMENT ∷ LEVEL1-ELEMENT ∷ ENTITY-REFERENCE ∷ DOCUMENT ∷ DOCUMENT-FRAGMENT ∷ [] }
+    ∷ record { type = COMMENT; alone = true; parents = ELEMENT ∷ LEVEL1-ELEMENT ∷ ENTITY-REFERENCE ∷ DOCUMENT ∷ DOCUMENT-FRAGMENT ∷ [] }
+    ∷ record { type = DOCUMENT-TYPE; alone = true; parents = DOCUMENT ∷ [] }
+    ∷ record { type = ENTITY; alone = true; parents = DOCUMENT-TYPE ∷ [] }
+    ∷ record { type = NOTATION; alone = true; parents = DOCUMENT-TYPE ∷ [] }
+    ∷ record { type = DOCUMENT; alone = true; parents = [] }
+    ∷ record { type = DOCUMENT-FRAGMENT; alone = true; parents = [] }
     ∷ []

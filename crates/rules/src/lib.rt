@@ -1,6 +1,60 @@
 // The types that every crate shares: where things stand in a node table and its pool, and what an
 // operation answers. The definitions in specs/Answers.antt give each case's number and values.
 
+// The words of a row, the most rows of a table and the most bytes of a pool.
+pub const WIDTH: usize = 10;
+
+pub const MOST_ROWS: usize = 1024;
+
+pub const MOST_BYTES: usize = 32768;
+
+// In place of a row number: there is no such row.
+pub const NONE: u32 = 4294967295;
+
+// The words of a row: its type, its parent or owner, and the offset of each of its four fields, whose length is the word after it.
+pub const TYPE: u32 = 0;
+
+pub const PARENT: u32 = 1;
+
+pub const PREFIX: u32 = 2;
+
+pub const LOCAL_NAME: u32 = 4;
+
+pub const URI: u32 = 6;
+
+pub const VALUE: u32 = 8;
+
+// The types of rows: DOM's, a namespace declaration, and a DOM Level 1 element and attribute.
+pub const ELEMENT: u32 = 1;
+
+pub const ATTRIBUTE: u32 = 2;
+
+pub const TEXT: u32 = 3;
+
+pub const CDATA_SECTION: u32 = 4;
+
+pub const ENTITY_REFERENCE: u32 = 5;
+
+pub const ENTITY: u32 = 6;
+
+pub const PROCESSING_INSTRUCTION: u32 = 7;
+
+pub const COMMENT: u32 = 8;
+
+pub const DOCUMENT: u32 = 9;
+
+pub const DOCUMENT_TYPE: u32 = 10;
+
+pub const DOCUMENT_FRAGMENT: u32 = 11;
+
+pub const NOTATION: u32 = 12;
+
+pub const DECLARATION: u32 = 13;
+
+pub const LEVEL1_ELEMENT: u32 = 257;
+
+pub const LEVEL1_ATTRIBUTE: u32 = 258;
+
 // The number of a row of the node table, counted from 0.
 pub struct Row(pub u32);
 
