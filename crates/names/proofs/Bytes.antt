@@ -1,153 +1,115 @@
 -- Byte strings go byte by byte: equality, a part as far as the pool goes, a good name.
 -- Assumes nothing.
-use Prim.Native.Nat.{ℕ, zero, suc, _+_, _-_, _≤_, _<_}
+use Prim.Native.Nat.{ℕ, zero, suc, _+_, _-_, _≤_, _<_, min}
 use mathlib.Core.Path.{_≡_, refl, sym, ap, _∙_}
-use mathlib.Core.Bool.{Bool, true, false, _&&_, _||_, and-false, or-true, or-false}
+use mathlib.Core.Bool.{Bool, true, false, _&&_, _||_, and-assoc, and-true, or-true, or-false}
 use mathlib.Core.List.{List, [], _∷_}
-use native.Mathlib.Nat.{le-of-suc-le-suc, not-suc-le-zero}
+use native.Mathlib.Nat.{le-of-suc-le-suc, not-suc-le-zero, zero-add, suc-add, zero-min, min-zero, suc-min-suc}
 use native.Mathlib.Numerals.{add-one}
 use native.Mathlib.Omega.{arith}
-use borrow.Author.Tests.{eq-eqb, ne-eqb}
 use lib.Dec.{eqb, leb}
-use lib.ListN.{length, getD, take, drop, length-drop, drop-of-length-le}
-use lib.Seq.{drop-cons, take-all, take-nil, getD-take}
+use lib.ListN.{length, getD, take, drop, length-drop, take-append-drop, drop-of-length-le}
+use lib.Seq.{drop-cons, drop-drop}
 use Rattle.rules.specs.Lists.{allOf, sameBytes}
 use Rattle.rules.specs.Table.{part}
-use Rattle.rules.proofs.Lists.{unequal-sameBytes}
+use Rattle.rules.specs.declared.Located.{Located}
+use Rattle.rules.specs.Lookups.{locatedPart}
+use Rattle.rules.specs.Answers.{locatedPlace}
 use Rattle.rules.specs.Refusals.{isBetween, isFirstByte, isNameByte, goodName}
+use Rattle.rules.proofs.Lists.{true-not-false, sameBytes-equal, equal-sameBytes, unequal-sameBytes}
 
--- Strings of two lengths differ.
-pub same-lengths : (a b : List ℕ) → (length a ≡ length b → ⊥) → sameBytes a b ≡ false
-same-lengths [] [] h = absurd (h refl)
-same-lengths [] (y ∷ ys) h = refl
-same-lengths (x ∷ xs) [] h = refl
-same-lengths (x ∷ xs) (y ∷ ys) h = rw (same-lengths xs ys (λ e. h (ap suc e))) (and-false (eqb x y))
+-- The strings are of one length, and equal from i on.
+pub record EqualFrom (a b : List ℕ) (i : ℕ) : Type 0 where
+  pub within : i ≤ length a
+  pub level : length a ≡ length b
+  pub behind : drop i a ≡ drop i b
 
--- Strings with two bytes at one place differ.
-pub same-differ : (a b : List ℕ) (i : ℕ) → (getD a i 0 ≡ getD b i 0 → ⊥) → sameBytes a b ≡ false
-same-differ a b i n = unequal-sameBytes a b (λ e. n (ap (λ l. getD l i 0) e))
+-- What is taken is compared group by group.
+same-taken : (m n : ℕ) (x y : List ℕ) → m ≤ length x → m ≤ length y → (sameBytes (take m x) (take m y) && sameBytes (take n (drop m x)) (take n (drop m y))) ≡ sameBytes (take (m + n) x) (take (m + n) y)
+same-taken zero n x y h l = rw zero-add
+same-taken (suc m) n [] y h l = absurd (not-suc-le-zero h)
+same-taken (suc m) n (x ∷ xs) [] h l = absurd (not-suc-le-zero l)
+same-taken (suc m) n (x ∷ xs) (y ∷ ys) h l =
+    rw (suc-add m n, and-assoc) (ap (λ t. eqb x y && t) (same-taken m n xs ys (le-of-suc-le-suc h) (le-of-suc-le-suc l)))
 
-pub first-differ : (a b : List ℕ) (count i : ℕ) → i < count → (getD a i 0 ≡ getD b i 0 → ⊥) → sameBytes (take count a) (take count b) ≡ false
-first-differ a b count i h n =
-    same-differ (take count a) (take count b) i (λ e. n (sym (getD-take count a i 0 h) ∙ e ∙ getD-take count b i 0 h))
+module _ (a b : List ℕ) where
+  pub equal-end : length a ≡ length b → EqualFrom a b (length a)
+  equal-end e =
+      record {
+        within = omega arith;
+        level = e;
+        behind = drop-of-length-le a {i = length a} (omega arith) ∙ sym (drop-of-length-le b {i = length a} (omega arith));
+      }
 
--- Equal bytes behind the first i leave those to be compared.
-same-step : (a b : List ℕ) (i : ℕ) → i < length a → i < length b → getD a i 0 ≡ getD b i 0 → sameBytes (take i a) (take i b) ≡ sameBytes (take (suc i) a) (take (suc i) b)
-same-step [] b i h l e = absurd (not-suc-le-zero h)
-same-step (x ∷ xs) [] i h l e = absurd (not-suc-le-zero l)
-same-step (x ∷ xs) (y ∷ ys) zero h l e = rw (eq-eqb x y e) refl
-same-step (x ∷ xs) (y ∷ ys) (suc i) h l e = ap (λ t. eqb x y && t) (same-step xs ys i (le-of-suc-le-suc h) (le-of-suc-le-suc l) e)
+  pub equal-byte : (i : ℕ) → 0 < i → EqualFrom a b i → getD a (i - 1) 0 ≡ getD b (i - 1) 0 → EqualFrom a b (i - 1)
+  equal-byte i h from byte =
+      let e : i ≡ suc (i - 1) = omega arith in
+      record {
+        within = omega arith;
+        level = from .level;
+        behind = cc (drop-cons a (i - 1) 0 (omega arith), drop-cons b (i - 1) 0 (omega arith));
+      }
 
-pub same-before : (a b : List ℕ) (i j : ℕ) → i ≡ j + 1 → j < length a → j < length b → getD a j 0 ≡ getD b j 0 → sameBytes (take j a) (take j b) ≡ sameBytes (take i a) (take i b)
-same-before a b i j e h l g = same-step a b j h l g ∙ sym (ap (λ n. sameBytes (take n a) (take n b)) (e ∙ add-one j))
+  pub equal-group : (n i : ℕ) → n ≤ i → EqualFrom a b i → sameBytes (part a (i - n) n) (part b (i - n) n) ≡ true → EqualFrom a b (i - n)
+  equal-group n i h from group =
+      let e : i ≡ (i - n) + n = omega arith in
+      record {
+        within = omega arith;
+        level = from .level;
+        behind = cc (sameBytes-equal (part a (i - n) n) (part b (i - n) n) group, take-append-drop n (drop (i - n) a), take-append-drop n (drop (i - n) b), drop-drop n (i - n) a, drop-drop n (i - n) b);
+      }
 
--- Strings of one length are compared whole.
-pub same-whole : (a b : List ℕ) (n : ℕ) → length a ≡ n → length b ≡ n → sameBytes (take n a) (take n b) ≡ sameBytes a b
-same-whole a b n p q = rw (take-all n a (omega arith), take-all n b (omega arith)) refl
+  pub equal-whole : (i : ℕ) → i ≤ 0 → EqualFrom a b i → true ≡ sameBytes a b
+  equal-whole zero h from = sym (equal-sameBytes (from .behind))
+  equal-whole (suc i) h from = absurd (omega arith)
 
--- Strings of one length whose last bytes are equal are compared before them.
-pub same-last : (a b : List ℕ) → length a ≡ length b → (length a ≡ 0 → ⊥) → getD a (length a - 1) 0 ≡ getD b (length a - 1) 0 → sameBytes (take (length a - 1) a) (take (length a - 1) b) ≡ sameBytes a b
-same-last a b e full g = same-before a b (length a) (length a - 1) (omega arith) (omega arith) (omega arith) g ∙ same-whole a b (length a) refl (sym e)
+  -- Strings that differ in something, such as their length, are not the same.
+  pub differ : {A : Type 0} (f : List ℕ → A) → (f a ≡ f b → ⊥) → false ≡ sameBytes a b
+  differ f h = sym (unequal-sameBytes a b (λ e. h (ap f e)))
 
-pub same-empty : (a b : List ℕ) → length a ≡ length b → length a ≡ 0 → true ≡ sameBytes a b
-same-empty [] [] e h = refl
-same-empty [] (y ∷ ys) e h = absurd (omega arith)
-same-empty (x ∷ xs) b e h = absurd (omega arith)
+  pub differ-group : (n i : ℕ) → sameBytes (part a i n) (part b i n) ≡ false → false ≡ sameBytes a b
+  differ-group n i other = differ (λ l. part l i n) (λ e. true-not-false (equal-sameBytes e) other)
 
--- An equal group of bytes behind the first j leaves those to be compared.
-pub same-group : (n : ℕ) (a b : List ℕ) (i j : ℕ) → i ≡ j + n → j ≤ length a → j ≤ length b → sameBytes (part a j n) (part b j n) ≡ true → sameBytes (take j a) (take j b) ≡ sameBytes (take i a) (take i b)
-same-group n a b i zero e h l same = sym (ap (λ m. sameBytes (take m a) (take m b)) none-before ∙ same)
-  where
-    none-before : i ≡ n
-    none-before = omega arith
-same-group n a b zero (suc j) e h l same = absurd (omega arith)
-same-group n [] b (suc i) (suc j) e h l same = absurd (not-suc-le-zero h)
-same-group n (x ∷ xs) [] (suc i) (suc j) e h l same = absurd (not-suc-le-zero l)
-same-group n (x ∷ xs) (y ∷ ys) (suc i) (suc j) e h l same =
-    ap (λ t. eqb x y && t) (same-group n xs ys i j (omega arith) (le-of-suc-le-suc h) (le-of-suc-le-suc l) same)
+  -- A group of bytes is compared byte by byte, and group by group.
+  pub same-two : (i : ℕ) → i + 2 ≤ length a → i + 2 ≤ length b → (eqb (getD a i 0) (getD b i 0) && eqb (getD a (i + 1) 0) (getD b (i + 1) 0)) ≡ sameBytes (part a i 2) (part b i 2)
+  same-two i h l =
+      rw (add-one, drop-cons a i 0 (omega arith), drop-cons b i 0 (omega arith), drop-cons a (suc i) 0 (omega arith), drop-cons b (suc i) 0 (omega arith), and-true)
 
-pub group-differ : (n : ℕ) (a b : List ℕ) (i j : ℕ) → i ≡ j + n → j ≤ length a → j ≤ length b → sameBytes (part a j n) (part b j n) ≡ false → sameBytes (take i a) (take i b) ≡ false
-group-differ n a b i zero e h l other = ap (λ m. sameBytes (take m a) (take m b)) none-before ∙ other
-  where
-    none-before : i ≡ n
-    none-before = omega arith
-group-differ n a b zero (suc j) e h l other = absurd (omega arith)
-group-differ n [] b (suc i) (suc j) e h l other = absurd (not-suc-le-zero h)
-group-differ n (x ∷ xs) [] (suc i) (suc j) e h l other = absurd (not-suc-le-zero l)
-group-differ n (x ∷ xs) (y ∷ ys) (suc i) (suc j) e h l other =
-    ap (λ t. eqb x y && t) (group-differ n xs ys i j (omega arith) (le-of-suc-le-suc h) (le-of-suc-le-suc l) other) ∙ and-false (eqb x y)
+  pub same-groups :
+      (m n i : ℕ) → i + m ≤ length a → i + m ≤ length b → (p q : Bool) → p ≡ sameBytes (part a i m) (part b i m) → q ≡ sameBytes (part a (i + m) n) (part b (i + m) n)
+      → (p && q) ≡ sameBytes (part a i (m + n)) (part b i (m + n))
+  same-groups m n i h l p q e f =
+      rw (e, f, ← drop-drop m i a, ← drop-drop m i b)
+      (same-taken m n (drop i a) (drop i b) (simp length-drop (omega arith)) (simp length-drop (omega arith)))
 
--- Eight bytes, one after the other.
-eight-tests : (a b c d e f g h : Bool) → (((((((a && b) && c) && d) && e) && f) && g) && h) ≡ (a && (b && (c && (d && (e && (f && (g && (h && true))))))))
-eight-tests false b c d e f g h = refl
-eight-tests true false c d e f g h = refl
-eight-tests true true false d e f g h = refl
-eight-tests true true true false e f g h = refl
-eight-tests true true true true false f g h = refl
-eight-tests true true true true true false g h = refl
-eight-tests true true true true true true false h = refl
-eight-tests true true true true true true true false = refl
-eight-tests true true true true true true true true = refl
+-- To take or to drop more bytes than there are is to take or to drop all of them.
+take-min : (n : ℕ) (l : List ℕ) → take (min n (length l)) l ≡ take n l
+take-min zero l = rw zero-min
+take-min (suc n) [] = rw min-zero
+take-min (suc n) (x ∷ xs) = rw suc-min-suc (ap (λ r. x ∷ r) (take-min n xs))
 
-part-next : (l : List ℕ) (n j k : ℕ) → k ≡ j + 1 → j < length l → part l j (suc n) ≡ getD l j 0 ∷ part l k n
-part-next l n j k e h = ap (take (suc n)) (drop-cons l j 0 h) ∙ ap (λ m. getD l j 0 ∷ take n (drop m l)) (sym (e ∙ add-one j))
+drop-min : (n : ℕ) (l : List ℕ) → drop (min n (length l)) l ≡ drop n l
+drop-min zero l = rw zero-min
+drop-min (suc n) [] = rw min-zero
+drop-min (suc n) (x ∷ xs) = rw suc-min-suc (drop-min n xs)
 
-eight-bytes :
-    (l : List ℕ) (i : ℕ) → i + 8 ≤ length l
-    → part l i 8 ≡ getD l i 0 ∷ getD l (i + 1) 0 ∷ getD l (i + 2) 0 ∷ getD l (i + 3) 0 ∷ getD l (i + 4) 0 ∷ getD l (i + 5) 0 ∷ getD l (i + 6) 0 ∷ getD l (i + 7) 0 ∷ []
-eight-bytes l i h =
-    part-next l 7 i (i + 1) (omega arith) (omega arith)
-    ∙ ap (λ r. getD l i 0 ∷ r) (part-next l 6 (i + 1) (i + 2) (omega arith) (omega arith)
-    ∙ ap (λ r. getD l (i + 1) 0 ∷ r) (part-next l 5 (i + 2) (i + 3) (omega arith) (omega arith)
-    ∙ ap (λ r. getD l (i + 2) 0 ∷ r) (part-next l 4 (i + 3) (i + 4) (omega arith) (omega arith)
-    ∙ ap (λ r. getD l (i + 3) 0 ∷ r) (part-next l 3 (i + 4) (i + 5) (omega arith) (omega arith)
-    ∙ ap (λ r. getD l (i + 4) 0 ∷ r) (part-next l 2 (i + 5) (i + 6) (omega arith) (omega arith)
-    ∙ ap (λ r. getD l (i + 5) 0 ∷ r) (part-next l 1 (i + 6) (i + 7) (omega arith) (omega arith)
-    ∙ ap (λ r. getD l (i + 6) 0 ∷ r) (part-next l 0 (i + 7) (i + 8) (omega arith) (omega arith))))))))
+-- A part as far as the pool goes.
+pub part-within :
+    (pool : List ℕ) (offset size start count : ℕ) → start ≡ min offset (length pool) → count ≡ min size (length pool - start)
+    → take count (drop start pool) ≡ part pool offset size
+part-within pool offset size start count e f =
+    let front : take count (drop start pool) ≡ take size (drop start pool) = rw (f, ← length-drop start pool) (take-min size (drop start pool)) in
+    let back : drop start pool ≡ drop offset pool = rw e (drop-min offset pool) in
+    front ∙ ap (take size) back
 
-pub same-eight :
-    (a b : List ℕ) (i : ℕ) → i + 8 ≤ length a → i + 8 ≤ length b
-    → (((((((eqb (getD a i 0) (getD b i 0) && eqb (getD a (i + 1) 0) (getD b (i + 1) 0)) && eqb (getD a (i + 2) 0) (getD b (i + 2) 0)) && eqb (getD a (i + 3) 0) (getD b (i + 3) 0)) && eqb (getD a (i + 4) 0) (getD b (i + 4) 0)) && eqb (getD a (i + 5) 0) (getD b (i + 5) 0)) && eqb (getD a (i + 6) 0) (getD b (i + 6) 0)) && eqb (getD a (i + 7) 0) (getD b (i + 7) 0))
-    ≡ sameBytes (part a i 8) (part b i 8)
-same-eight a b i h l =
-    rw (eight-bytes a i h, eight-bytes b i l)
-    (eight-tests (eqb (getD a i 0) (getD b i 0)) (eqb (getD a (i + 1) 0) (getD b (i + 1) 0)) (eqb (getD a (i + 2) 0) (getD b (i + 2) 0)) (eqb (getD a (i + 3) 0) (getD b (i + 3) 0)) (eqb (getD a (i + 4) 0) (getD b (i + 4) 0)) (eqb (getD a (i + 5) 0) (getD b (i + 5) 0)) (eqb (getD a (i + 6) 0) (getD b (i + 6) 0)) (eqb (getD a (i + 7) 0) (getD b (i + 7) 0)))
-
--- Four.
-four-tests : (a b c d : Bool) → (((a && b) && c) && d) ≡ (a && (b && (c && (d && true))))
-four-tests false b c d = refl
-four-tests true false c d = refl
-four-tests true true false d = refl
-four-tests true true true false = refl
-four-tests true true true true = refl
-
-four-bytes : (l : List ℕ) (i : ℕ) → i + 4 ≤ length l → part l i 4 ≡ getD l i 0 ∷ getD l (i + 1) 0 ∷ getD l (i + 2) 0 ∷ getD l (i + 3) 0 ∷ []
-four-bytes l i h =
-    part-next l 3 i (i + 1) (omega arith) (omega arith)
-    ∙ ap (λ r. getD l i 0 ∷ r) (part-next l 2 (i + 1) (i + 2) (omega arith) (omega arith)
-    ∙ ap (λ r. getD l (i + 1) 0 ∷ r) (part-next l 1 (i + 2) (i + 3) (omega arith) (omega arith)
-    ∙ ap (λ r. getD l (i + 2) 0 ∷ r) (part-next l 0 (i + 3) (i + 4) (omega arith) (omega arith))))
-
-pub same-four :
-    (a b : List ℕ) (i : ℕ) → i + 4 ≤ length a → i + 4 ≤ length b
-    → (((eqb (getD a i 0) (getD b i 0) && eqb (getD a (i + 1) 0) (getD b (i + 1) 0)) && eqb (getD a (i + 2) 0) (getD b (i + 2) 0)) && eqb (getD a (i + 3) 0) (getD b (i + 3) 0))
-    ≡ sameBytes (part a i 4) (part b i 4)
-same-four a b i h l =
-    rw (four-bytes a i h, four-bytes b i l)
-    (four-tests (eqb (getD a i 0) (getD b i 0)) (eqb (getD a (i + 1) 0) (getD b (i + 1) 0)) (eqb (getD a (i + 2) 0) (getD b (i + 2) 0)) (eqb (getD a (i + 3) 0) (getD b (i + 3) 0)))
-
-pub same-none : (a b : List ℕ) (i : ℕ) → i ≤ 0 → sameBytes (take i a) (take i b) ≡ true
-same-none a b zero h = refl
-same-none a b (suc i) h = absurd (not-suc-le-zero h)
-
--- Past its end the pool has no part, and a part that is too long ends with the pool.
-pub part-none : (pool : List ℕ) (offset size : ℕ) → length pool ≤ offset → [] ≡ part pool offset size
-part-none pool offset size h = rw (drop-of-length-le pool h) (sym (take-nil size))
-
-pub part-rest : (pool : List ℕ) (offset size : ℕ) → length pool - offset ≤ size → take (length pool - offset) (drop offset pool) ≡ part pool offset size
-part-rest pool offset size h =
-    take-all (length pool - offset) (drop offset pool) (simp length-drop (omega arith))
-    ∙ sym (take-all size (drop offset pool) (simp length-drop (omega arith)))
+-- The part of the pool that an answer stands for, and its place.
+pub located-as :
+    (pool : List ℕ) (answer form : Located) → answer ≡ form
+    → (part pool (locatedPlace form .offset .0) (locatedPlace form .length) ≡ locatedPart pool answer) × (locatedPlace answer ≡ locatedPlace form)
+unfolding locatedPart locatedPlace
+located-as pool answer (Located.At p) is = (rw is, rw is)
+located-as pool answer Located.Nothing is = (rw is, rw is)
+located-as pool answer (Located.Refused x) is = (rw is, rw is)
 
 module _ (test : ℕ → Bool) (l : List ℕ) (i : ℕ) where
   pub all-step : i < length l → test (getD l i 0) ≡ true → allOf test (drop (i + 1) l) ≡ allOf test (drop i l)

@@ -1,11 +1,14 @@
-// Reading a row of a lent table. `word` and `field` ask nothing of the row: beyond the table every word is 0.
-// `word_within`, `field_within` and `field_is` read a row that is known to be in the table, and test nothing.
+// Reading the rows of a lent table, and arrays of row numbers. What is read of a row is read here. A
+// field is named by the word that its offset stands in, as `rules::URI`.
 ghost use mathlib.Core.Path.{_≡_};
-ghost use Prim.Native.Nat.{_+_, _*_, _<_};
-ghost use lib.ListN.{getD};
+ghost use Prim.Native.Nat.{_<_};
+ghost use lib.ListN.{length, getD};
+ghost use lib.Dec.{ltb};
 ghost use Rattle.rules.specs.Lists.{sameBytes};
-ghost use Rattle.rules.specs.Table.{word, fieldAt, rowCount};
+ghost use Rattle.rules.specs.Table.{WIDTH, TYPE, PARENT, word, fieldAt, rowCount, isElement, isLevel1};
+ghost use Rattle.rows.specs.Reading.{HasField, placeAt};
 use rules::Offset;
+use rules::Place;
 use rules::Row;
 
 // A word as an index.
@@ -15,61 +18,98 @@ pub fn wide(x: u32) -> usize
     x as usize
 }
 
-// Where word k of a row stands in the table.
-fn index(row: Row, k: u32) -> usize
-    ensures { λ r. ⌜ r ≡ 10 * row .0 + k ⌝ }
+// How many rows the table has.
+pub fn row_count(table: &[u32]) -> usize
+    ensures { λ r. ⌜ r ≡ rowCount (now (table .entry)) ⌝ }
 {
-    wide(row.0) * 10 + wide(k)
+    table.len() / rules::WIDTH
 }
 
-fn word_at(table: &[u32], at: usize) -> u32
-    ensures { λ r. ⌜ r ≡ getD (now (table .entry)) at 0 ⌝ }
+// Whether the table has the row.
+pub fn has_row(table: &[u32], row: Row) -> bool
+    ensures { λ r. ⌜ r ≡ ltb (row .0) (rowCount (now (table .entry))) ⌝ }
 {
-    if at < table.len() {
-        return table[at];
-    }
-    0
+    wide(row.0) < row_count(table)
 }
 
-// Word k of a row.
-pub fn word(table: &[u32], row: Row, k: u32) -> u32
+// The type of a row.
+pub fn kind(table: &[u32], row: Row) -> u32
+    requires { ⌜ row .0 < rowCount (now table) ⌝ }
+    ensures { λ r. ⌜ r ≡ word (now (table .entry)) (row .0) TYPE ⌝ }
+{
+    word(table, row, rules::TYPE)
+}
+
+// The parent of a row; of an attribute or a declaration, its owner.
+pub fn parent(table: &[u32], row: Row) -> Row
+    requires { ⌜ row .0 < rowCount (now table) ⌝ }
+    ensures { λ r. ⌜ r .0 ≡ word (now (table .entry)) (row .0) PARENT ⌝ }
+{
+    Row(word(table, row, rules::PARENT))
+}
+
+// Where a field of a row stands in the pool.
+pub fn place(table: &[u32], row: Row, field: u32) -> Place
+    requires { ⌜ HasField (now table) (row .0) field ⌝ }
+    ensures { λ r. ⌜ r ≡ placeAt (now (table .entry)) (row .0) field ⌝ }
+{
+    let offset = Offset(word(table, row, field));
+    let length = word(table, row, field + 1);
+    Place { offset, length }
+}
+
+// The bytes of a field of a row.
+pub fn field<'p>(table: &[u32], pool: &'p [u8], row: Row, field: u32) -> &'p [u8]
+    requires { ⌜ HasField (now table) (row .0) field ⌝ }
+    ensures { λ r. ⌜ now r ≡ fieldAt (now (table .entry)) (now (pool .entry)) (row .0) field .bytes ⌝ }
+{
+    let offset = Offset(word(table, row, field));
+    names::part(pool, offset, word(table, row, field + 1))
+}
+
+// The field of a row is this name.
+pub fn field_is(table: &[u32], pool: &[u8], row: Row, field: u32, name: &[u8]) -> bool
+    requires { ⌜ HasField (now table) (row .0) field ⌝ }
+    ensures { λ r. ⌜ r ≡ sameBytes (fieldAt (now (table .entry)) (now (pool .entry)) (row .0) field .bytes) (now (name .entry)) ⌝ }
+{
+    let offset = Offset(word(table, row, field));
+    names::is_part(pool, offset, word(table, row, field + 1), name)
+}
+
+// The type is that of an element, of DOM Level 2 or 1.
+pub fn is_element(kind: u32) -> bool
+    ensures { λ r. ⌜ r ≡ isElement kind ⌝ }
+{
+    (kind == rules::ELEMENT) | (kind == rules::LEVEL1_ELEMENT)
+}
+
+// The type is one of DOM Level 1.
+pub fn is_level1(kind: u32) -> bool
+    ensures { λ r. ⌜ r ≡ isLevel1 kind ⌝ }
+{
+    (kind == rules::LEVEL1_ELEMENT) | (kind == rules::LEVEL1_ATTRIBUTE)
+}
+
+// The row that is linked to a row.
+pub fn linked(links: &[u32], row: Row) -> Row
+    requires { ⌜ row .0 < length (now links) ⌝ }
+    ensures { λ r. ⌜ r .0 ≡ getD (now (links .entry)) (row .0) 0 ⌝ }
+{
+    row_at(links, wide(row.0))
+}
+
+// The row that stands at a position of a list of rows.
+pub fn row_at(rows: &[u32], at: usize) -> Row
+    requires { ⌜ at < length (now rows) ⌝ }
+    ensures { λ r. ⌜ r .0 ≡ getD (now (rows .entry)) at 0 ⌝ }
+{
+    Row(rows[at])
+}
+
+fn word(table: &[u32], row: Row, k: u32) -> u32
+    requires { ⌜ (row .0 < rowCount (now table)) × (k < WIDTH) ⌝ }
     ensures { λ r. ⌜ r ≡ word (now (table .entry)) (row .0) k ⌝ }
 {
-    word_at(table, index(row, k))
-}
-
-// The bytes of the field whose offset is word k of a row and whose length is the word after it.
-pub fn field<'p>(table: &[u32], pool: &'p [u8], row: Row, k: u32) -> &'p [u8]
-    ensures { λ r. ⌜ now r ≡ fieldAt (now (table .entry)) (now (pool .entry)) (row .0) k .bytes ⌝ }
-{
-    let at = index(row, k);
-    let offset = Offset(word_at(table, at));
-    names::part(pool, offset, word_at(table, at + 1))
-}
-
-// Word k of a row that is in the table.
-pub fn word_within(table: &[u32], row: Row, k: u32) -> u32
-    requires { ⌜ (row .0 < rowCount (now table)) × (k < 10) ⌝ }
-    ensures { λ r. ⌜ r ≡ word (now (table .entry)) (row .0) k ⌝ }
-{
-    let at = index(row, k);
+    let at = wide(row.0) * rules::WIDTH + wide(k);
     table[at]
-}
-
-// The bytes of the field of a row that is in the table.
-pub fn field_within<'p>(table: &[u32], pool: &'p [u8], row: Row, k: u32) -> &'p [u8]
-    requires { ⌜ (row .0 < rowCount (now table)) × (k < 9) ⌝ }
-    ensures { λ r. ⌜ now r ≡ fieldAt (now (table .entry)) (now (pool .entry)) (row .0) k .bytes ⌝ }
-{
-    let offset = Offset(word_within(table, row, k));
-    names::part(pool, offset, word_within(table, row, k + 1))
-}
-
-// The field of a row that is in the table is this name.
-pub fn field_is(table: &[u32], pool: &[u8], row: Row, k: u32, name: &[u8]) -> bool
-    requires { ⌜ (row .0 < rowCount (now table)) × (k < 9) ⌝ }
-    ensures { λ r. ⌜ r ≡ sameBytes (fieldAt (now (table .entry)) (now (pool .entry)) (row .0) k .bytes) (now (name .entry)) ⌝ }
-{
-    let offset = Offset(word_within(table, row, k));
-    names::is_part(pool, offset, word_within(table, row, k + 1), name)
 }

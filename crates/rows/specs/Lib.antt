@@ -1,0 +1,2 @@
+-- What is read of a row.
+pub mod Reading
