@@ -1,9 +1,1 @@
-pub mod OneOf
-pub mod Allowed
-pub mod Before
-pub mod Links
-pub mod Structure
-pub mod RowTests
-pub mod Doubles
-pub mod Walk
 pub mod Pass

@@ -1,2 +1,1 @@
-pub mod Parents
-pub mod Chains
+pub mod Pass

@@ -1,22 +1,18 @@
 // The check of a node table: refusals 1 to 7.
-mod chains;
-mod fields;
-mod kinds;
-mod namespaces;
-mod parents;
-
 ghost use mathlib.Core.Path.{_≡_};
-ghost use mathlib.Core.Bool.{false};
-ghost use lib.ListN.{length};
-ghost use Rattle.rules.specs.Lists.{numbersFrom};
-ghost use Rattle.rules.specs.Table.{rowCount, nodes, isElement};
-ghost use Rattle.rules.specs.Refusals.{badSize, rowRefusal, refusedOr, checkRows, checked};
-ghost use Rattle.rules.specs.declared.Checked.{Checked};
-ghost use Rattle.checker.specs.Chains.{isOwned, under, Latest, Chained, Within};
-use rows::wide;
+ghost use Prim.Native.Nat.{_≤_, _<_};
+ghost use Rattle.rules.specs.Table.{MOST-ROWS, rowCount};
+ghost use Rattle.rules.specs.Refusals.{badSize, verdict, checked};
+ghost use Rattle.checker.specs.Pass.{refusalAt, rowsRefusal, Seen};
+use fields::declaration;
+use fields::field;
+use fields::name;
+use fields::namespace;
 use rules::Checked;
 use rules::Refusal;
 use rules::Row;
+use tree::double;
+use tree::structure;
 
 // The first refusal that the table draws, or that it is accepted.
 pub fn check(table: &[u32], pool: &[u8]) -> Checked
@@ -32,28 +28,27 @@ pub fn check(table: &[u32], pool: &[u8]) -> Checked
 fn bad_size(table: &[u32], pool: &[u8]) -> bool
     ensures { λ r. ⌜ r ≡ badSize (now (table .entry)) (now (pool .entry)) ⌝ }
 {
-    (table.len() % 10 != 0) | (table.len() > 10240) | (pool.len() > 32768)
+    (table.len() % rules::WIDTH != 0)
+        | (table.len() > rules::WIDTH * rules::MOST_ROWS)
+        | (pool.len() > rules::MOST_BYTES)
 }
 
-// Refusals 2 to 7, rows ascending. The three arrays grow with the pass: under each row the latest element,
-// under each row the latest attribute or declaration, and before each of these the one before it.
+// Refusals 2 to 7, rows ascending. The arrays of links grow with the pass.
 fn check_rows(table: &[u32], pool: &[u8]) -> Checked
-    requires { ⌜ badSize (now table) (now pool) ≡ false ⌝ }
-    ensures { λ r. ⌜ r ≡ checkRows (nodes (now (table .entry)) (now (pool .entry))) (length (now (pool .entry))) (numbersFrom 0 (rowCount (now (table .entry)))) ⌝ }
+    requires { ⌜ rowCount (now table) ≤ MOST-ROWS ⌝ }
+    ensures { λ r. ⌜ r ≡ verdict (rowsRefusal (now (table .entry)) (now (pool .entry))) ⌝ }
 {
-    let count = table.len() / 10;
-    let mut children: [u32; 1024] = [0; 1024];
-    let mut latest: [u32; 1024] = [0; 1024];
-    let mut previous: [u32; 1024] = [0; 1024];
+    let mut children = [rules::NONE; rules::MOST_ROWS];
+    let mut latest = [rules::NONE; rules::MOST_ROWS];
+    let mut previous = [rules::NONE; rules::MOST_ROWS];
     let mut r: u32 = 0;
-    while wide(r) < count {
-        let row = Row(r);
-        let drawn = check_row(table, pool, &children, &latest, &previous, row);
-        if let Checked::Refused(x) = drawn {
-            return Checked::Refused(x);
-        }
-        chains::add_element(table, &mut children, row);
-        chains::add_owned(table, &mut latest, &mut previous, row);
+    while rows::has_row(table, Row(r)) {
+        let drawn = check_row(table, pool, &children, &latest, &previous, Row(r));
+        let Checked::Accepted = drawn else {
+            return drawn;
+        };
+        structure::add(table, &mut children, Row(r));
+        double::add(table, &mut latest, &mut previous, Row(r));
         r += 1;
     }
     Checked::Accepted
@@ -68,29 +63,26 @@ fn check_row(
     previous: &[u32],
     row: Row,
 ) -> Checked
-    requires { ⌜ Within (now table) (row .0) ⌝ }
-    requires { ⌜ Latest (under isElement (now table)) (now children) (row .0) ⌝ }
-    requires { ⌜ Chained (under isOwned (now table)) (now latest) (now previous) (row .0) ⌝ }
-    ensures { λ r. ⌜ r ≡ refusedOr (rowRefusal (nodes (now (table .entry)) (now (pool .entry))) (length (now (pool .entry))) (row .0)) Checked.Accepted ⌝ }
+    requires { ⌜ row .0 < rowCount (now table) ⌝ }
+    requires { ⌜ Seen (now table) (now children) (now latest) (now previous) (row .0) ⌝ }
+    ensures { λ r. ⌜ r ≡ verdict (refusalAt (now (table .entry)) (now (pool .entry)) (row .0)) ⌝ }
 {
-    if parents::bad_structure(table, children, row) {
+    if structure::bad(table, children, row) {
         return Checked::Refused(Refusal::Structure(row));
     }
-    let fields = fields::bad_fields(table, pool, row);
-    let names = fields::bad_names(table, pool, row);
-    if fields {
+    if field::bad(table, pool, row) {
         return Checked::Refused(Refusal::Fields(row));
     }
-    if names {
+    if name::bad(table, pool, row) {
         return Checked::Refused(Refusal::Names(row));
     }
-    if namespaces::bad_namespace(table, pool, row) {
+    if namespace::bad(table, pool, row) {
         return Checked::Refused(Refusal::Namespace(row));
     }
-    if namespaces::bad_declaration(table, pool, row) {
+    if declaration::bad(table, pool, row) {
         return Checked::Refused(Refusal::Declaration(row));
     }
-    if chains::has_double(table, pool, latest, previous, row) {
+    if double::found(table, pool, latest, previous, row) {
         return Checked::Refused(Refusal::Double(row));
     }
     Checked::Accepted

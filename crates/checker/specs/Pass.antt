@@ -1,0 +1,22 @@
+-- The pass over the rows of a table: what they are refused for, and what the arrays of links hold.
+use Prim.Native.Nat.{ℕ}
+use mathlib.Core.List.{List}
+use mathlib.Core.Option.{Option}
+use lib.ListN.{length}
+use Rattle.rules.specs.Table.{rowCount, nodes, isElement}
+use Rattle.rules.specs.Refusals.{rowRefusal, lowestRefusal}
+use Rattle.rules.specs.declared.Refusal.{Refusal}
+use Rattle.tree.specs.Chains.{isOwned, Latest, Chained}
+
+-- what row r is refused for
+abbrev pub refusalAt : List ℕ → List ℕ → ℕ → Option Refusal
+refusalAt table pool = rowRefusal (nodes table pool) (length pool)
+
+-- what the rows are refused for
+abbrev pub rowsRefusal : List ℕ → List ℕ → Option Refusal
+rowsRefusal table pool = lowestRefusal (refusalAt table pool) (rowCount table)
+
+-- What the pass has seen before row r: elements, attributes and declarations.
+pub record Seen (table children latest previous : List ℕ) (r : ℕ) : Type 0 where
+  pub elements : Latest isElement table children r
+  pub owned : Chained isOwned table latest previous r

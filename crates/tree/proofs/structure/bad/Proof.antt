@@ -1,0 +1,115 @@
+-- `structure::bad` meets its contract.
+-- Assumes nothing.
+use mathlib.Core.Path.{ap, _∙_}
+use native.Mathlib.Omega.{arith}
+use borrow.Author.Tests.{not-true, not-false}
+use denote.Ref.{now}
+use Rattle.rules.specs.Refusals.{parentRule}
+use Rattle.tree.specs.Parents.{ruleAllows}
+use Rattle.tree.proofs.Allowed.{line-bound}
+use Rattle.tree.proofs.Parents.{structure-alone, structure-late, structure-refused, structure-elsewhere, structure-second}
+use borrow.Author.Needs.{needs}
+use Rattle.tree.proofs.structure.bad.Statement.{statement}
+use Rattle.tree.proofs.structure.bad.Tie as tie
+
+kind-requires : tie.Need-kind-requires
+kind-requires c κs = search needs
+
+parent-requires : tie.Need-parent-requires
+parent-requires c κs = search needs
+
+allows-requires : tie.Need-allows-requires
+allows-requires c κs = search needs
+
+returns : tie.Need-returns
+returns c =
+    let i = c .before in
+    let p = i .before .before in
+    let k = p .before in
+    let s = k .before .before .before in
+    λ pool. structure-alone (now (s .args .table)) pool (s .args .row .0) (s .pre .0) (k .kind .ensures) (p .parent .ensures) (s .pre .1 .few) (i .if1 .taken) (c .allows .ensures)
+
+returns-2 : tie.Need-returns-2
+returns-2 c =
+    let i = c .before .before .before in
+    let p = i .before .before in
+    let k = p .before in
+    let s = k .before .before .before in
+    λ pool. structure-late (now (s .args .table)) pool (s .args .row .0) (s .pre .0) (k .kind .ensures) (p .parent .ensures) (i .if1 .left) (omega arith)
+
+kind-requires-2 : tie.Need-kind-requires-2
+kind-requires-2 c κs = search needs
+
+line-requires : tie.Need-line-requires
+line-requires c κs = search needs
+
+allows-requires-2 : tie.Need-allows-requires-2
+allows-requires-2 c κs = omega (arith, c .line .ensures, line-bound (c .before .kind2 .result))
+
+returns-3 : tie.Need-returns-3
+returns-3 c =
+    let a = c .before in
+    let l = a .before in
+    let t = l .before in
+    let i = t .before .before .before .before in
+    let p = i .before .before in
+    let k = p .before in
+    let s = k .before .before .before in
+    λ pool.
+    structure-refused (now (s .args .table)) pool (s .args .row .0) (s .pre .0) (k .kind .ensures) (p .parent .ensures) (i .if1 .left) (omega arith) (t .kind2 .ensures)
+    (a .allows2 .ensures ∙ ap (ruleAllows (parentRule (k .kind .result))) (l .line .ensures)) (not-true (a .allows2 .result) (c .if3 .taken))
+
+returns-4 : tie.Need-returns-4
+returns-4 c =
+    let e = c .before in
+    let a = e .before in
+    let l = a .before in
+    let t = l .before in
+    let i = t .before .before .before .before in
+    let p = i .before .before in
+    let k = p .before in
+    let s = k .before .before .before in
+    λ pool.
+    structure-elsewhere (now (s .args .table)) pool (s .args .row .0) (s .pre .0) (k .kind .ensures) (p .parent .ensures) (i .if1 .left) (omega arith) (t .kind2 .ensures)
+    (a .allows2 .ensures ∙ ap (ruleAllows (parentRule (k .kind .result))) (l .line .ensures)) (not-false (a .allows2 .result) (e .if3 .left)) (c .if4 .taken)
+
+linked-requires : tie.Need-linked-requires
+linked-requires c κs = search needs
+
+is-element-requires : tie.Need-is-element-requires
+is-element-requires c κs = search needs
+
+returns-5 : tie.Need-returns-5
+returns-5 c =
+    let g = c .before .before in
+    let d = g .before in
+    let e = d .before .before in
+    let a = e .before in
+    let l = a .before in
+    let t = l .before in
+    let i = t .before .before .before .before in
+    let p = i .before .before in
+    let k = p .before in
+    let s = k .before .before .before in
+    λ pool.
+    structure-second (now (s .args .table)) pool (s .args .row .0) (s .pre .0) (k .kind .ensures) (p .parent .ensures) (i .if1 .left) (omega arith) (t .kind2 .ensures)
+    (a .allows2 .ensures ∙ ap (ruleAllows (parentRule (k .kind .result))) (l .line .ensures)) (not-false (a .allows2 .result) (e .if3 .left)) (d .before .if4 .left)
+    (now (s .args .children)) (s .pre .1) (d .linked .ensures) (g .is-element .ensures)
+
+pub bad-spec : {M : Type 1} → statement M
+bad-spec =
+    tie.close
+    (tie.spec
+    kind-requires
+    parent-requires
+    allows-requires
+    returns
+    returns-2
+    kind-requires-2
+    line-requires
+    allows-requires-2
+    returns-3
+    returns-4
+    linked-requires
+    is-element-requires
+    returns-5)

@@ -1,0 +1,118 @@
+// Refusal 2: an unknown type, a parent that is not allowed, or a document's second element.
+ghost use mathlib.Core.Path.{_≡_};
+ghost use mathlib.Core.List.{List};
+ghost use Prim.Native.Nat.{ℕ, _+_, _≤_, _<_};
+ghost use Rattle.rules.specs.Table.{rowCount, nodes, isElement};
+ghost use Rattle.rules.specs.Refusals.{parentRule, badStructure};
+ghost use Rattle.tree.specs.Parents.{NOTHING, lineOf, ruleAllows, Right};
+ghost use Rattle.tree.specs.Chains.{Latest, ParentBefore};
+use rows::wide;
+use rules::Row;
+
+// What may stand above a row, a bit for each: a row of a type, or nothing.
+const NOTHING: u32 = rules::DECLARATION + 1;
+
+const ALONE: u16 = 1 << NOTHING;
+
+const ELEMENT: u16 = 1 << rules::ELEMENT;
+
+const REFERENCE: u16 = 1 << rules::ENTITY_REFERENCE;
+
+const DOCUMENT: u16 = 1 << rules::DOCUMENT;
+
+const DOCUMENT_TYPE: u16 = 1 << rules::DOCUMENT_TYPE;
+
+const FRAGMENT: u16 = 1 << rules::DOCUMENT_FRAGMENT;
+
+const CONTENT: u16 = ALONE | ELEMENT | REFERENCE | FRAGMENT;
+
+// The allowed parents, a line for each type from 1 to 13; line 0 is that of an unknown type.
+const ALLOWED: [u16; 14] = [
+    0,
+    CONTENT | DOCUMENT,
+    ALONE | ELEMENT,
+    CONTENT,
+    CONTENT,
+    CONTENT,
+    ALONE | DOCUMENT_TYPE,
+    CONTENT | DOCUMENT,
+    CONTENT | DOCUMENT,
+    ALONE,
+    ALONE | DOCUMENT,
+    ALONE,
+    ALONE | DOCUMENT_TYPE,
+    ELEMENT,
+];
+
+// The row draws the refusal.
+pub fn bad(table: &[u32], children: &[u32], row: Row) -> bool
+    requires { ⌜ row .0 < rowCount (now table) ⌝ }
+    requires { ⌜ Latest isElement (now table) (now children) (row .0) ⌝ }
+    ensures { λ r. ⌜ ((pool : List ℕ) → r ≡ badStructure (nodes (now (table .entry)) pool) (row .0)) ⌝ }
+{
+    let kind = rows::kind(table, row);
+    let parent = rows::parent(table, row);
+    if parent.0 == rules::NONE {
+        return !allows(kind, NOTHING);
+    }
+    if parent.0 >= row.0 {
+        return true;
+    }
+    let above = rows::kind(table, parent);
+    if !allows(kind, line(above)) {
+        return true;
+    }
+    if above != rules::DOCUMENT {
+        return false;
+    }
+    let child = rows::linked(children, parent);
+    rows::is_element(kind) & (child.0 < row.0)
+}
+
+// Enters the row, if it is an element, as the latest under its parent.
+pub fn add(table: &[u32], children: &mut [u32], row: Row)
+    requires { ⌜ row .0 < rowCount (now table) ⌝ }
+    requires { ⌜ ParentBefore (now table) (row .0) ⌝ }
+    requires { ⌜ Latest isElement (now table) (now children) (row .0) ⌝ }
+    ensures { λ _. ⌜ Latest isElement (now (table .entry)) (now (children .exit)) (row .0 + 1) ⌝ }
+{
+    let parent = rows::parent(table, row);
+    if rows::is_element(rows::kind(table, row)) {
+        if parent.0 < row.0 {
+            children[wide(parent.0)] = row.0;
+        }
+    }
+}
+
+// A row of this type may stand under a row of the line above, or under nothing.
+fn allows(kind: u32, above: u32) -> bool
+    requires { ⌜ above ≤ NOTHING ⌝ }
+    ensures { λ r. ⌜ r ≡ ruleAllows (parentRule kind) above ⌝ }
+{
+    has_bit(&ALLOWED, line(kind), above)
+}
+
+// The line of the table has the bit.
+fn has_bit(lines: &[u16], line: u32, above: u32) -> bool
+    requires { ⌜ Right (now lines) ⌝ }
+    requires { ⌜ (line < NOTHING) × (above ≤ NOTHING) ⌝ }
+    ensures { λ r. ⌜ r ≡ ruleAllows (parentRule line) above ⌝ }
+{
+    (lines[wide(line)] >> above) & 1 == 1
+}
+
+// The line of a type in the table: its number, a DOM Level 1 type standing with the same type of Level 2.
+fn line(kind: u32) -> u32
+    ensures { λ r. ⌜ r ≡ lineOf kind ⌝ }
+{
+    if kind <= rules::DECLARATION {
+        return kind;
+    }
+    if kind == rules::LEVEL1_ELEMENT {
+        return rules::ELEMENT;
+    }
+    if kind == rules::LEVEL1_ATTRIBUTE {
+        return rules::ATTRIBUTE;
+    }
+    0
+}
