@@ -1,0 +1,2 @@
+-- Elements of a table, and paths of them.
+pub mod Paths

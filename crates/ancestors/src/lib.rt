@@ -1,0 +1,125 @@
+// The elements that a row lies in, from the nearest outward, as a path: an array of their row numbers.
+// No such element is NONE.
+ghost use mathlib.Core.Path.{_≡_};
+ghost use mathlib.Core.Bool.{cond, _&&_, _||_};
+ghost use mathlib.Core.List.{List};
+ghost use Prim.Native.Nat.{ℕ, _+_, _<_, _≤_};
+ghost use lib.ListN.{length, set, take};
+ghost use lib.Dec.{eqb, ltb};
+ghost use Rattle.rules.specs.Table.{NONE, TYPE, PARENT, ENTITY-REFERENCE, nodes, rowCount, word, isElement};
+ghost use Rattle.rules.specs.Lookups.{elementsFrom, ancestorElement, elementChild, startElement, lookupElements};
+ghost use Rattle.rows.specs.Reading.{rowOr};
+ghost use Rattle.ancestors.specs.Paths.{PathOf, pathWith};
+use rules::Row;
+
+// The elements that a lookup from the row goes through: its start element and outward. Answers how
+// many there are.
+pub fn lookup_elements(table: &[u32], row: Row, path: &mut [u32]) -> usize
+    requires { ⌜ row .0 < rowCount (now table) ⌝ }
+    requires { ⌜ (rowCount (now table) ≤ length (now path)) × (rowCount (now table) ≤ NONE) ⌝ }
+    ensures { λ r. ⌜ PathOf (now (table .entry)) (now (path .exit)) r ⌝ }
+    ensures { λ r. ⌜ ((pool : List ℕ) → take r (now (path .exit)) ≡ lookupElements (nodes (now (table .entry)) pool) (row .0)) ⌝ }
+{
+    let first = start(table, row);
+    if rows::has_row(table, first) {
+        return collect(table, first, path, 0);
+    }
+    0
+}
+
+// The nearest ancestor element.
+pub fn ancestor(table: &[u32], row: Row) -> Row
+    requires { ⌜ row .0 < rowCount (now table) ⌝ }
+    ensures { λ r. ⌜ ((pool : List ℕ) → r .0 ≡ rowOr (ancestorElement (nodes (now (table .entry)) pool) (row .0))) ⌝ }
+{
+    let parent = rows::parent(table, row);
+    if parent.0 < row.0 {
+        let mut path = [rules::NONE; 1];
+        if collect(table, parent, &mut path, 0) == 1 {
+            return rows::row_at(&path, 0);
+        }
+    }
+    Row(rules::NONE)
+}
+
+// The element that a lookup from the row starts at.
+fn start(table: &[u32], row: Row) -> Row
+    requires { ⌜ (row .0 < rowCount (now table)) × (rowCount (now table) ≤ NONE) ⌝ }
+    ensures { λ r. ⌜ ((pool : List ℕ) → r .0 ≡ rowOr (startElement (nodes (now (table .entry)) pool) (row .0))) ⌝ }
+{
+    let kind = rows::kind(table, row);
+    match kind {
+        rules::ELEMENT | rules::LEVEL1_ELEMENT => row,
+        rules::ATTRIBUTE | rules::DECLARATION | rules::LEVEL1_ATTRIBUTE => rows::parent(table, row),
+        rules::DOCUMENT => element_child(table, row),
+        rules::ENTITY | rules::DOCUMENT_TYPE | rules::NOTATION => Row(rules::NONE),
+        rules::DOCUMENT_FRAGMENT => Row(rules::NONE),
+        _ => ancestor(table, row),
+    }
+}
+
+// The element child of a document.
+fn element_child(table: &[u32], row: Row) -> Row
+    requires { ⌜ rowCount (now table) ≤ NONE ⌝ }
+    ensures { λ r. ⌜ ((pool : List ℕ) → r .0 ≡ rowOr (elementChild (nodes (now (table .entry)) pool) (row .0))) ⌝ }
+{
+    let n = rows::row_count(table);
+    let mut i: usize = 0;
+    while i < n {
+        let child = Row(i as u32);
+        if is_element_child(table, child, row) {
+            return child;
+        }
+        i += 1;
+    }
+    Row(rules::NONE)
+}
+
+// The child is an element and its parent is the row.
+fn is_element_child(table: &[u32], child: Row, row: Row) -> bool
+    requires { ⌜ child .0 < rowCount (now table) ⌝ }
+    ensures { λ r. ⌜ r ≡ (isElement (word (now (table .entry)) (child .0) TYPE) && eqb (word (now (table .entry)) (child .0) PARENT) (row .0)) ⌝ }
+{
+    if rows::is_element(rows::kind(table, child)) {
+        return rows::parent(table, child).0 == row.0;
+    }
+    false
+}
+
+// Writes the row, if it is an element, and the elements outward from it behind the first places of the
+// path, as many as it has room for. Answers how many places are taken then.
+fn collect(table: &[u32], row: Row, path: &mut [u32], count: usize) -> usize
+    requires { ⌜ (row .0 < rowCount (now table)) × (count < length (now path)) ⌝ }
+    ensures { λ r. ⌜ r ≤ length (now (path .exit)) ⌝ }
+    ensures { λ r. ⌜ ((pool : List ℕ) → take r (now (path .exit)) ≡ pathWith (now (path .entry)) count (elementsFrom (nodes (now (table .entry)) pool) (row .0))) ⌝ }
+{
+    let kind = rows::kind(table, row);
+    let parent = rows::parent(table, row);
+    let taken = enter(kind, row, path, count);
+    if leads_out(kind, row, parent) {
+        if taken < path.len() {
+            return collect(table, parent, path, taken);
+        }
+    }
+    taken
+}
+
+// Writes the row to the next place of the path, if it is an element.
+fn enter(kind: u32, row: Row, path: &mut [u32], count: usize) -> usize
+    requires { ⌜ count < length (now path) ⌝ }
+    ensures { λ r. ⌜ r ≡ cond (isElement kind) (count + 1) count ⌝ }
+    ensures { λ _. ⌜ now (path .exit) ≡ cond (isElement kind) (set (now (path .entry)) count (row .0)) (now (path .entry)) ⌝ }
+{
+    if rows::is_element(kind) {
+        path[count] = row.0;
+        return count + 1;
+    }
+    count
+}
+
+// The climb goes on from the row to its parent: over elements and entity references.
+fn leads_out(kind: u32, row: Row, parent: Row) -> bool
+    ensures { λ r. ⌜ r ≡ ((isElement kind || eqb kind ENTITY-REFERENCE) && ltb (parent .0) (row .0)) ⌝ }
+{
+    (rows::is_element(kind) | (kind == rules::ENTITY_REFERENCE)) & (parent.0 < row.0)
+}

@@ -1,2 +1,0 @@
--- Rows that may be missing, as numbers.
-pub mod Found

@@ -1,0 +1,2 @@
+-- What the questions ask of a path of elements.
+pub mod Along

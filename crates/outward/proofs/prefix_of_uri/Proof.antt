@@ -1,0 +1,91 @@
+-- `outward::prefix_of_uri` meets its contract. The invariant: what is left of the path gives what the whole path gives.
+-- Assumes nothing.
+use native.Mathlib.Omega.{arith}
+use borrow.Author.Needs.{needs}
+use borrow.Author.Tests.{ltb-true, ltb-false}
+use mathlib.Core.Path.{ap, _∙_}
+use lib.ListN.{length}
+use Rattle.rules.specs.Table.{nodes}
+use Rattle.rules.specs.Lookups.{located}
+use Rattle.rules.specs.declared.Located.{Located}
+use Rattle.outward.proofs.Tests.{prefix-empty, prefix-asked}
+use Rattle.outward.proofs.Left.{Left, left-first, left-element, left-own, left-declared, left-next, left-end, prefixLookup}
+use Rattle.outward.proofs.prefix_of_uri.Statement.{statement}
+use Rattle.outward.proofs.prefix_of_uri.Tie as tie
+
+abbrev Inv-loop : tie.InvT-loop
+Inv-loop table pool first next path uri left₀ left = Left table pool first next path (prefixLookup (nodes table pool) path uri) left
+
+abbrev μ-loop : tie.MeasureT-loop
+μ-loop table pool first next path uri left₀ left = length left
+
+returns : tie.Need-returns Inv-loop μ-loop
+returns c = prefix-empty _ _ _ (c .if1 .taken)
+
+loop-holds : tie.Need-loop-holds Inv-loop μ-loop
+loop-holds c = left-first _ _ _ _ _ _ (c .before .before .before .before .before .before .before .pre)
+
+row-at-requires : tie.Need-row-at-requires Inv-loop μ-loop
+row-at-requires c κs = omega arith
+
+names-prefix-requires : tie.Need-names-prefix-requires Inv-loop μ-loop
+names-prefix-requires c κs = (c .before .before .before .before .before .before .before .before .before .before .pre, left-element _ _ _ _ _ _ _ (c .before .before .loop .inv) (omega arith) _ (c .row-at .ensures) .within)
+
+place-requires : tie.Need-place-requires Inv-loop μ-loop
+place-requires c κs = (left-element _ _ _ _ _ _ _ (c .before .before .before .before .loop .inv) (omega arith) _ (c .before .before .row-at .ensures) .within, omega arith)
+
+returns-2 : tie.Need-returns-2 Inv-loop μ-loop
+returns-2 c = ap Located.At (c .place .ensures) ∙ ap located (left-own _ _ _ _ _ _ _ (c .before .before .before .before .before .loop .inv) (omega arith) _ (c .before .before .before .row-at .ensures) (cc) ∙ prefix-asked _ _ _ (c .before .before .before .before .before .before .if1 .left))
+
+own-giving-requires : tie.Need-own-giving-requires Inv-loop μ-loop
+own-giving-requires c κs = (c .before .before .before .before .before .before .before .before .before .before .before .before .pre, left-element _ _ _ _ _ _ _ (c .before .before .before .before .loop .inv) (omega arith) _ (c .before .before .row-at .ensures))
+
+has-row-requires : tie.Need-has-row-requires Inv-loop μ-loop
+has-row-requires c κs = search needs
+
+place-requires-2 : tie.Need-place-requires-2 Inv-loop μ-loop
+place-requires-2 c κs = (ltb-true _ _ (cc), omega arith)
+
+returns-3 : tie.Need-returns-3 Inv-loop μ-loop
+returns-3 c = ap Located.At (c .place2 .ensures) ∙ ap located (left-declared _ _ _ _ _ _ _ (c .before .before .before .before .before .before .before .before .loop .inv) (omega arith) _ (c .before .before .before .before .before .before .row-at .ensures) (cc) _ (c .before .before .before .own-giving .ensures) (ltb-true _ _ (cc)) ∙ prefix-asked _ _ _ (c .before .before .before .before .before .before .before .before .before .if1 .left))
+
+sub-left : tie.Need-sub-left Inv-loop μ-loop
+sub-left c = omega arith
+
+part-left-start : tie.Need-part-left-start Inv-loop μ-loop
+part-left-start c = omega arith
+
+part-left-end : tie.Need-part-left-end Inv-loop μ-loop
+part-left-end c = omega arith
+
+loop-less : tie.Need-loop-less Inv-loop μ-loop
+loop-less c = omega arith
+
+loop-again : tie.Need-loop-again Inv-loop μ-loop
+loop-again c = left-next _ _ _ _ _ _ _ (c .before .before .before .before .before .before .before .before .loop .inv) (omega arith) _ (c .before .before .before .before .before .before .row-at .ensures) (cc) _ (c .before .before .before .own-giving .ensures) (ltb-false _ _ (cc))
+
+returns-4 : tie.Need-returns-4 Inv-loop μ-loop
+returns-4 c = ap located (left-end _ _ _ _ _ _ _ (c .before .loop .inv) (omega arith) ∙ prefix-asked _ _ _ (c .before .before .if1 .left))
+
+pub prefix-of-uri-spec : {M : Type 1} → statement M
+prefix-of-uri-spec =
+    tie.close
+    (tie.spec
+    Inv-loop
+    μ-loop
+    returns
+    loop-holds
+    row-at-requires
+    names-prefix-requires
+    place-requires
+    returns-2
+    own-giving-requires
+    has-row-requires
+    place-requires-2
+    returns-3
+    sub-left
+    part-left-start
+    part-left-end
+    loop-less
+    loop-again
+    returns-4)

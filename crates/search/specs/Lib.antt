@@ -1,2 +1,0 @@
--- What the three lookups ask of one row.
-pub mod Tests
