@@ -1,2 +1,0 @@
--- The verdict on a lookup's arguments.
-pub mod Verdict

@@ -1,0 +1,105 @@
+-- A found place lies in the pool, so the part that is handed back stands at it.
+-- Assumes nothing.
+use Prim.Native.Nat.{ℕ, _+_, _≤_, min}
+use native.Mathlib.Omega.{arith}
+use mathlib.Core.Bool.{Bool, true}
+use mathlib.Core.List.{List, [], _∷_}
+use mathlib.Core.Option.{Option, none, some}
+use mathlib.Core.Path.{_≡_, refl}
+use denote.Ref.{RefT}
+use lib.ListN.{length}
+use lib.Dec.{ltb, leb}
+use borrow.Author.Tests.{ltb-true, ltb-false, le-leb, leb-true}
+use Rattle.rules.specs.Lists.{isEmpty}
+use Rattle.rules.specs.Table.{Field, Node, nodes, node, rowCount}
+use Rattle.rules.specs.Refusals.{refusedIf, unlessRefused, checkRefusal}
+use Rattle.rules.specs.Lookups.{uriOfPrefix, prefixOfUri, located, lookupElements, lookupRefusal, uriOfPrefixAt, prefixOfUriAt}
+use Rattle.rules.specs.Answers.{locatedPlace}
+use Rattle.rules.specs.declared.Refusal.{Refusal}
+use Rattle.rules.specs.declared.Located.{Located}
+use Rattle.rules.proofs.Lists.{by-cases}
+use Rattle.rules.proofs.Refusals.{all-none}
+use Rattle.rules.proofs.Accepted.{Accepted, FieldAccepted, FieldsAccepted, fields-accepted, unrefused}
+use Rattle.names.specs.Parts.{StandsAt}
+use Rattle.outward.proofs.Left.{uriLookup, prefixLookup}
+use Rattle.outward.proofs.Placed.{no-row, answers-good}
+
+-- The field, if there is one, starts in the pool, or at its end.
+abbrev starts : ℕ → Option Field → Bool
+starts size none = true
+starts size (some f) = leb (f .offset) size
+
+field-starts : (size : ℕ) (f : Field) → FieldAccepted size f → starts size (some f) ≡ true
+field-starts size f is = le-leb (f .offset) size (omega (arith, is .inPool))
+
+located-starts : (size : ℕ) (o : Option Field) → starts size o ≡ true → locatedPlace (located o) .offset .0 ≤ size
+unfolding locatedPlace
+located-starts size none is = omega arith
+located-starts size (some f) is = leb-true (f .offset) size is
+
+module _ (table pool : List ℕ) (is : Accepted table pool) where
+  abbrev ns : List Node
+  ns = nodes table pool
+
+  -- The fields of every row, those of no row too.
+  row-fields : (r : ℕ) → FieldsAccepted (length pool) (node ns r)
+  row-fields r =
+      by-cases (ltb r (length ns)) (λ less. fields-accepted ns (length pool) r (is .row r (ltb-true r (length ns) less)))
+      (λ more.
+      rw (no-row ns r (ltb-false r (length ns) more))
+      (record {
+        prefix = record { inPool = omega arith; noOffset = λ e. refl };
+        local = record { inPool = omega arith; noOffset = λ e. refl };
+        uri = record { inPool = omega arith; noOffset = λ e. refl };
+        value = record { inPool = omega arith; noOffset = λ e. refl };
+      }))
+
+  uri-starts : (prefix path : List ℕ) → starts (length pool) (uriOfPrefix ns prefix path) ≡ true
+  uri-starts prefix path =
+      answers-good ns (uriLookup ns prefix) (starts (length pool)) refl (λ e. field-starts (length pool) (node ns e .uri) (row-fields e .uri))
+      (λ r less.
+      by-cases (isEmpty (node ns r .value .bytes)) (λ empty. rw empty refl)
+      (λ full. rw full (field-starts (length pool) (node ns r .value) (row-fields r .value)))) path
+
+  prefix-starts : (uri path : List ℕ) → starts (length pool) (prefixOfUri ns uri path) ≡ true
+  unfolding prefixOfUri
+  prefix-starts uri path =
+      by-cases (isEmpty uri) (λ empty. rw empty refl)
+      (λ full.
+      rw full
+      (answers-good ns (prefixLookup ns path uri) (starts (length pool)) refl (λ e. field-starts (length pool) (node ns e .prefix) (row-fields e .prefix))
+      (λ r less. field-starts (length pool) (node ns r .local) (row-fields r .local)) path))
+
+-- Of a lookup that is not refused the table is accepted; a refusal has the place of nothing.
+module _ (table pool : List ℕ) (r : ℕ) where
+  table-accepted : lookupRefusal table pool r ≡ none → Accepted table pool
+  unfolding lookupRefusal
+  table-accepted is =
+      unrefused table pool (all-none (checkRefusal table pool ∷ refusedIf (leb (rowCount table) r) Refusal.NoSuchRow ∷ []) is .0)
+
+  unless-refused :
+      (found : Option Field) → (Accepted table pool → starts (length pool) found ≡ true) → (o : Option Refusal) → lookupRefusal table pool r ≡ o
+      → locatedPlace (unlessRefused o Located.Refused (located found)) .offset .0 ≤ length pool
+  unfolding locatedPlace
+  unless-refused found in? none is = located-starts (length pool) found (in? (table-accepted is))
+  unless-refused found in? (some x) is = omega arith
+
+  pub uri-place : (prefix : List ℕ) → locatedPlace (uriOfPrefixAt table pool r prefix) .offset .0 ≤ length pool
+  unfolding uriOfPrefixAt
+  uri-place prefix =
+      unless-refused (uriOfPrefix (nodes table pool) prefix (lookupElements (nodes table pool) r))
+      (λ is. uri-starts table pool is prefix (lookupElements (nodes table pool) r)) (lookupRefusal table pool r) refl
+
+  pub prefix-place : (uri : List ℕ) → locatedPlace (prefixOfUriAt table pool r uri) .offset .0 ≤ length pool
+  unfolding prefixOfUriAt
+  prefix-place uri =
+      unless-refused (prefixOfUri (nodes table pool) uri (lookupElements (nodes table pool) r))
+      (λ is. prefix-starts table pool is uri (lookupElements (nodes table pool) r)) (lookupRefusal table pool r) refl
+
+-- The part stands at a place that lies in the pool.
+pub stands-at :
+    (pool part : RefT (List ℕ)) (found answer : Located) → found ≡ answer → locatedPlace answer .offset .0 ≤ length (pool .now)
+    → StandsAt pool (locatedPlace found .offset .0) part → (part .ptr .0 ≡ pool .ptr .0) × (part .ptr .1 ≡ pool .ptr .1 + locatedPlace answer .offset .0)
+stands-at pool part found answer is inside stands =
+    let at : part .ptr .1 ≡ pool .ptr .1 + min (locatedPlace answer .offset .0) (length (pool .now)) = rw is at (stands .place) in
+    (stands .block, omega (arith, at, inside))
