@@ -1,4 +1,4 @@
+pub mod Writes
 pub mod Numbered
 pub mod Rows
-pub mod Writes
 pub mod Meaning

@@ -1,13 +1,13 @@
 -- A turn of a loop that clears or copies, and what the loop leaves.
 -- Assumes nothing.
 use Prim.Native.Nat.{ℕ, suc, _+_, _-_, _≤_, _<_}
-use mathlib.Core.Path.{_≡_, refl, ap, _∙_}
-use mathlib.Core.List.{List, _++_, append-nil}
+use mathlib.Core.Path.{_≡_, refl, sym, ap, _∙_}
+use mathlib.Core.List.{List, [], _∷_, _++_, append-nil}
 use native.Mathlib.Nat.{zero-add, le-antisymm}
 use native.Mathlib.Numerals.{add-one}
 use native.Mathlib.Omega.{arith}
-use lib.ListN.{length, getD, take, drop, set, replicate, length-set, length-append, length-drop, length-replicate}
-use lib.Seq.{take-all, take-length, take-suc-set, append-snoc, length-take-le, paste, paste-suc}
+use lib.ListN.{length, getD, take, drop, set, replicate, length-set, length-append, length-drop}
+use lib.Seq.{take-all, take-length, take-suc-set, take-append-seam, getD-append-seam, append-snoc, length-take-le, paste, paste-suc}
 use Rattle.buffers.specs.Writes.{written, cleared}
 
 -- What is left to clear decides what the buffer will be.
@@ -31,6 +31,17 @@ module _ (t₀ t : List ℕ) (at : ℕ) (l : List ℕ) (i : ℕ) (e : t ≡ past
       let n : i ≡ length l = le-antisymm h k in
       e ∙ rw (n, take-length) refl
 
+-- A store behind what was written is a longer write.
+pub write-more : (t : List ℕ) (at : ℕ) (l : List ℕ) (v : ℕ) → at + length l < length t → set (written t at l) (at + length l) v ≡ written t at (l ++ v ∷ [])
+write-more t at l v h =
+    let more = l ++ v ∷ [] in
+    let size : length more ≡ length l + 1 = length-append l (v ∷ []) in
+    let part : written t at l ≡ paste t at more (length l) = ap (λ (m : List ℕ). take at t ++ m ++ drop (at + length l) t) (sym (take-append-seam l (v ∷ []))) in
+    let last : getD more (length l) 0 ≡ v = getD-append-seam l v [] 0 in
+    ap (λ (x : ℕ). set (written t at l) (at + length l) x) (sym last)
+    ∙ write-step t (written t at l) at more (length l) part (omega arith) (omega arith)
+    ∙ write-end t (paste t at more (length l + 1)) at more (length l + 1) refl (omega arith) (omega arith)
+
 -- A copy is a write from the start.
 pub written-from-start : (t l : List ℕ) → written t 0 l ≡ l ++ drop (length l) t
 written-from-start t l = ap (λ (n : ℕ). l ++ drop n t) (zero-add (length l))
@@ -40,8 +51,3 @@ pub length-written : (t : List ℕ) (at : ℕ) (l : List ℕ) → at + length l 
 length-written t at l h =
     let e : length (take at t) ≡ at = length-take-le at t (omega arith) in
     simp (length-append, length-drop, e) (omega arith)
-
-pub length-cleared : (t : List ℕ) (from : ℕ) → from ≤ length t → length (cleared t from) ≡ length t
-length-cleared t from h =
-    let e : length (take from t) ≡ from = length-take-le from t h in
-    simp (length-append, length-replicate, e) (omega arith)

@@ -1,7 +1,10 @@
 -- What the writes leave in a lent buffer. A buffer keeps its length.
-use Prim.Native.Nat.{ℕ, _+_, _-_}
-use mathlib.Core.List.{List, [], _∷_, _++_}
-use lib.ListN.{length, take, drop, replicate}
+use Prim.Native.Nat.{ℕ, _+_, _-_, _*_}
+use mathlib.Core.List.{List, [], _++_}
+use lib.ListN.{length, take, drop, set, replicate}
+use Rattle.rules.specs.Table.{WIDTH, Field, part, wordsOf}
+use Rattle.rules.specs.Normalization.{newDeclaration}
+use Rattle.rules.specs.declared.Place.{Place}
 
 -- the buffer with a list written from an index on
 abbrev pub written : List ℕ → ℕ → List ℕ → List ℕ
@@ -11,7 +14,15 @@ written buffer at l = take at buffer ++ l ++ drop (at + length l) buffer
 abbrev pub cleared : List ℕ → ℕ → List ℕ
 cleared buffer from = take from buffer ++ replicate (length buffer - from) 0
 
--- the ten words of a new declaration: its owner, and the offset and length of the declared prefix and of the URI
-abbrev pub declarationWords : ℕ → ℕ → ℕ → ℕ → ℕ → List ℕ
-declarationWords owner prefixOffset prefixLength uriOffset uriLength =
-    13 ∷ owner ∷ 0 ∷ 0 ∷ prefixOffset ∷ prefixLength ∷ 0 ∷ 0 ∷ uriOffset ∷ uriLength ∷ []
+-- the table with the field of row r whose offset is word k set to a place of the pool
+abbrev pub placed : List ℕ → ℕ → ℕ → Place → List ℕ
+placed table r k place = set (set table (WIDTH * r + k) (place .offset .0)) (WIDTH * r + k + 1) (place .length)
+
+-- the field at a place of the pool
+abbrev pub fieldIn : List ℕ → Place → Field
+fieldIn pool place =
+    record { offset = place .offset .0; size = place .length; bytes = part pool (place .offset .0) (place .length) }
+
+-- the words of a new declaration: its owner, and the places of the declared prefix and of the URI; no pool matters
+abbrev pub declarationWords : ℕ → Place → Place → List ℕ
+declarationWords owner prefix uri = wordsOf (newDeclaration owner (fieldIn [] prefix) (fieldIn [] uri))

@@ -2,99 +2,71 @@
 ghost use mathlib.Core.Path.{_≡_};
 ghost use mathlib.Core.List.{_++_};
 ghost use Prim.Native.Nat.{_+_, _*_, _≤_, _<_};
-ghost use lib.ListN.{length, drop, set};
+ghost use lib.ListN.{length, drop};
+ghost use Rattle.rules.specs.Table.{WIDTH};
 ghost use Rattle.rules.specs.Normalization.{numberedPrefix};
-ghost use Rattle.buffers.specs.Writes.{written, cleared, declarationWords};
+ghost use Rattle.buffers.specs.Writes.{written, cleared, placed, declarationWords};
+use rules::Offset;
 use rules::Place;
 use rules::Row;
 
-// Sets the words from an index on to 0.
-pub fn clear_words(t: &mut [u32], from: usize)
-    requires { ⌜ from ≤ length (now t) ⌝ }
-    ensures { λ _. ⌜ now (t .exit) ≡ cleared (now (t .entry)) from ⌝ }
+// Copies a table to the start of another.
+pub fn copy_words(source: &[u32], table: &mut [u32])
+    requires { ⌜ length (now source) ≤ length (now table) ⌝ }
+    ensures { λ _. ⌜ now (table .exit) ≡ now (source .entry) ++ drop (length (now (source .entry))) (now (table .entry)) ⌝ }
 {
-    let mut i = from;
-    while i < t.len() {
-        t[i] = 0;
+    write_rows(table, Row(0), source);
+}
+
+// Copies a pool to the start of another.
+pub fn copy_bytes(source: &[u8], pool: &mut [u8])
+    requires { ⌜ length (now source) ≤ length (now pool) ⌝ }
+    ensures { λ _. ⌜ now (pool .exit) ≡ now (source .entry) ++ drop (length (now (source .entry))) (now (pool .entry)) ⌝ }
+{
+    append_bytes(pool, Offset(0), source);
+}
+
+// Sets the words behind the first rows to 0.
+pub fn clear_words(table: &mut [u32], rows: usize)
+    requires { ⌜ WIDTH * rows ≤ length (now table) ⌝ }
+    ensures { λ _. ⌜ now (table .exit) ≡ cleared (now (table .entry)) (WIDTH * rows) ⌝ }
+{
+    let mut i = rules::WIDTH * rows;
+    while i < table.len() {
+        table[i] = 0;
         i += 1;
     }
 }
 
-// Sets the bytes from an index on to 0.
-pub fn clear_bytes(b: &mut [u8], from: usize)
-    requires { ⌜ from ≤ length (now b) ⌝ }
-    ensures { λ _. ⌜ now (b .exit) ≡ cleared (now (b .entry)) from ⌝ }
+// Sets the bytes behind the first ones to 0.
+pub fn clear_bytes(pool: &mut [u8], bytes: usize)
+    requires { ⌜ bytes ≤ length (now pool) ⌝ }
+    ensures { λ _. ⌜ now (pool .exit) ≡ cleared (now (pool .entry)) bytes ⌝ }
 {
-    let mut i = from;
-    while i < b.len() {
-        b[i] = 0;
+    let mut i = bytes;
+    while i < pool.len() {
+        pool[i] = 0;
         i += 1;
     }
 }
 
-// Writes words from an index on.
-fn write_words(t: &mut [u32], at: usize, words: &[u32])
-    requires { ⌜ at + length (now words) ≤ length (now t) ⌝ }
-    ensures { λ _. ⌜ now (t .exit) ≡ written (now (t .entry)) at (now (words .entry)) ⌝ }
+// Sets a field of a row to a part of the pool. The field is the word of its offset.
+pub fn set_place(table: &mut [u32], row: Row, field: u32, place: Place)
+    requires { ⌜ WIDTH * row .0 + field + 1 < length (now table) ⌝ }
+    ensures { λ _. ⌜ now (table .exit) ≡ placed (now (table .entry)) (row .0) field place ⌝ }
 {
-    let mut i = 0;
-    while i < words.len() {
-        t[at + i] = words[i];
-        i += 1;
-    }
-}
-
-// Writes bytes to the pool from an offset on.
-pub fn append_bytes(pool: &mut [u8], at: usize, bytes: &[u8])
-    requires { ⌜ at + length (now bytes) ≤ length (now pool) ⌝ }
-    ensures { λ _. ⌜ now (pool .exit) ≡ written (now (pool .entry)) at (now (bytes .entry)) ⌝ }
-{
-    let mut i = 0;
-    while i < bytes.len() {
-        pool[at + i] = bytes[i];
-        i += 1;
-    }
-}
-
-// Copies the source to the start of the table.
-pub fn copy_words(source: &[u32], t: &mut [u32])
-    requires { ⌜ length (now source) ≤ length (now t) ⌝ }
-    ensures { λ _. ⌜ now (t .exit) ≡ now (source .entry) ++ drop (length (now (source .entry))) (now (t .entry)) ⌝ }
-{
-    write_words(t, 0, source);
-}
-
-// Copies the source to the start of the pool.
-pub fn copy_bytes(source: &[u8], b: &mut [u8])
-    requires { ⌜ length (now source) ≤ length (now b) ⌝ }
-    ensures { λ _. ⌜ now (b .exit) ≡ now (source .entry) ++ drop (length (now (source .entry))) (now (b .entry)) ⌝ }
-{
-    append_bytes(b, 0, source);
-}
-
-fn wide(x: u32) -> usize
-    ensures { λ r. ⌜ r ≡ x ⌝ }
-{
-    x as usize
-}
-
-// Sets the field of a row whose offset is word k.
-pub fn set_place(table: &mut [u32], row: Row, k: u32, place: Place)
-    requires { ⌜ 10 * row .0 + k + 1 < length (now table) ⌝ }
-    ensures { λ _. ⌜ now (table .exit) ≡ set (set (now (table .entry)) (10 * row .0 + k) (place .offset .0)) (10 * row .0 + k + 1) (place .length) ⌝ }
-{
-    let at = wide(row.0) * 10 + wide(k);
+    let at = rules::WIDTH * row.0 as usize + field as usize;
     table[at] = place.offset.0;
     table[at + 1] = place.length;
 }
 
-// Writes a declaration as the row of a number: the declared prefix and the URI are parts of the pool.
-pub fn append_row(table: &mut [u32], count: usize, owner: Row, local: Place, value: Place)
-    requires { ⌜ 10 * count + 10 ≤ length (now table) ⌝ }
-    ensures { λ _. ⌜ now (table .exit) ≡ written (now (table .entry)) (10 * count) (declarationWords (owner .0) (local .offset .0) (local .length) (value .offset .0) (value .length)) ⌝ }
+// Writes a declaration as a row: the declared prefix and the URI are parts of the pool.
+pub fn append_row(table: &mut [u32], row: Row, owner: Row, local: Place, value: Place)
+    requires { ⌜ WIDTH * row .0 + WIDTH ≤ length (now table) ⌝ }
+    ensures { λ _. ⌜ now (table .exit) ≡ written (now (table .entry)) (WIDTH * row .0) (declarationWords (owner .0) local value) ⌝ }
 {
-    let row = [
-        13,
+    let words = [
+        rules::DECLARATION,
         owner.0,
         0,
         0,
@@ -105,7 +77,50 @@ pub fn append_row(table: &mut [u32], count: usize, owner: Row, local: Place, val
         value.offset.0,
         value.length,
     ];
-    write_words(table, 10 * count, &row);
+    write_rows(table, row, &words);
+}
+
+// Writes bytes to the pool from an offset on.
+pub fn append_bytes(pool: &mut [u8], at: Offset, bytes: &[u8])
+    requires { ⌜ at .0 + length (now bytes) ≤ length (now pool) ⌝ }
+    ensures { λ _. ⌜ now (pool .exit) ≡ written (now (pool .entry)) (at .0) (now (bytes .entry)) ⌝ }
+{
+    let start = at.0 as usize;
+    let mut i = 0;
+    while i < bytes.len() {
+        pool[start + i] = bytes[i];
+        i += 1;
+    }
+}
+
+// Writes `NS` and the decimal digits of k to the pool from an offset on; answers how many bytes that are.
+pub fn append_numbered(pool: &mut [u8], at: Offset, k: u32) -> usize
+    requires { ⌜ at .0 + length (numberedPrefix k) ≤ length (now pool) ⌝ }
+    ensures { λ r. ⌜ r ≡ length (numberedPrefix k) ⌝ }
+    ensures { λ _. ⌜ now (pool .exit) ≡ written (now (pool .entry)) (at .0) (numberedPrefix k) ⌝ }
+{
+    if k < 10 {
+        let bytes = [78, 83, digit(k)];
+        append_bytes(pool, at, &bytes);
+        return 3;
+    }
+    let front = append_numbered(pool, at, k / 10);
+    let end = at.0 as usize + front;
+    pool[end] = digit(k % 10);
+    front + 1
+}
+
+// Writes words to the table from a row on.
+fn write_rows(table: &mut [u32], row: Row, words: &[u32])
+    requires { ⌜ WIDTH * row .0 + length (now words) ≤ length (now table) ⌝ }
+    ensures { λ _. ⌜ now (table .exit) ≡ written (now (table .entry)) (WIDTH * row .0) (now (words .entry)) ⌝ }
+{
+    let start = rules::WIDTH * row.0 as usize;
+    let mut i = 0;
+    while i < words.len() {
+        table[start + i] = words[i];
+        i += 1;
+    }
 }
 
 // The byte of a decimal digit.
@@ -114,37 +129,4 @@ fn digit(x: u32) -> u8
     ensures { λ r. ⌜ r ≡ 48 + x ⌝ }
 {
     48 + x as u8
-}
-
-// Writes `NS` and the decimal digits of k to the pool from an offset on; answers how many bytes that are.
-pub fn append_numbered(pool: &mut [u8], at: usize, k: u32) -> usize
-    requires { ⌜ (k < 10000) × (at + 6 ≤ length (now pool)) ⌝ }
-    ensures { λ r. ⌜ r ≡ length (numberedPrefix k) ⌝ }
-    ensures { λ _. ⌜ now (pool .exit) ≡ written (now (pool .entry)) at (numberedPrefix k) ⌝ }
-{
-    if k < 10 {
-        let bytes = [78, 83, digit(k)];
-        append_bytes(pool, at, &bytes);
-        return 3;
-    }
-    if k < 100 {
-        let bytes = [78, 83, digit(k / 10), digit(k % 10)];
-        append_bytes(pool, at, &bytes);
-        return 4;
-    }
-    if k < 1000 {
-        let bytes = [78, 83, digit(k / 100), digit(k / 10 % 10), digit(k % 10)];
-        append_bytes(pool, at, &bytes);
-        return 5;
-    }
-    let bytes = [
-        78,
-        83,
-        digit(k / 1000),
-        digit(k / 100 % 10),
-        digit(k / 10 % 10),
-        digit(k % 10),
-    ];
-    append_bytes(pool, at, &bytes);
-    6
 }

@@ -1,4 +1,4 @@
-pub mod Attributes
+pub mod Input
+pub mod Start
+pub mod Outcome
 pub mod Demand3
-pub mod Rows
-pub mod Whole

@@ -1,2 +1,1 @@
--- What the loops of normalization keep.
-pub mod Loops
+pub mod Input

@@ -7,24 +7,22 @@ use native.Mathlib.Omega.{arith}
 use mathlib.Core.Bool.{Bool, true, false, cond, _||_}
 use mathlib.Core.List.{List, [], _∷_, _++_}
 use mathlib.Core.Path.{_≡_, refl, sym, ap, _∙_, subst}
-use lib.ListN.{length, getD, set, replicate, length-set, getD-replicate}
+use lib.ListN.{length, getD, drop, set, replicate, length-set, getD-replicate}
 use lib.Seq.{getD-set-same, getD-set-other}
 use lib.Dec.{eqb}
 use borrow.Author.Tests.{eqb-true, eqb-false, eq-eqb, ne-eqb}
 use Rattle.rules.specs.Lists.{anyOf}
-use Rattle.rules.specs.Table.{Node, nodes, nodeAt, rowCount}
-use Rattle.rules.specs.Lookups.{declares, ownDeclarations, scopeAt}
+use Rattle.rules.specs.Table.{MOST-ROWS, DECLARATION, Node, nodes, nodeAt, rowCount}
+use Rattle.rules.specs.Lookups.{declares, ownDeclarations, scopeOf}
 use Rattle.rules.specs.Normalization.{numberedPrefix, leastFree}
 use Rattle.rules.proofs.Lists.{by-cases, anyOf-append}
-use Rattle.rules.proofs.Table.{length-nodes}
 use Rattle.rules.proofs.Prefixes.{least-free}
-use Rattle.rules.proofs.Bounds.{scope-count}
-use Rattle.index.specs.Links.{Stop, owned, rowsFrom}
-use Rattle.index.proofs.Walk.{stop-first, stop-next, next-later, rows-next, rows-end, declarations-first}
-use Rattle.scope.specs.Ready.{Ready, Element, Up}
-use Rattle.scope.proofs.Upwards.{outer-element, scope-outer, scope-outermost}
+use Rattle.links.specs.Links.{Stop, owned, rowsFrom, Ready}
+use Rattle.links.proofs.Walk.{stop-first, stop-next, next-later, rows-next, rows-end, declarations-first}
+use Rattle.ancestors.specs.Paths.{Element}
+use Rattle.in_scope.proofs.Path.{path-split, path-past}
 use Rattle.numbering.specs.Numbers.{numberOf}
-use Rattle.numbering.specs.Marks.{inUse, Marking, leastUnmarked}
+use Rattle.numbering.specs.Marks.{MARKS, inUse, Marking, leastUnmarked}
 use Rattle.numbering.proofs.Reading.{number-same}
 
 or-assoc : (a b c : Bool) → ((a || b) || c) ≡ (a || (b || c))
@@ -35,7 +33,7 @@ or-none : (a : Bool) → (a || false) ≡ a
 or-none true = refl
 or-none false = refl
 
-pub marking-start : (marks : List ℕ) (whole : List Node) → length marks ≡ 1026 → Marking marks whole marks whole
+pub marking-start : (marks : List ℕ) (whole : List Node) → length marks ≡ MARKS → Marking marks whole marks whole
 marking-start marks whole size = record { size = size; each = λ k one few. refl }
 
 -- Some of the declarations are marked.
@@ -53,14 +51,14 @@ marking-step start whole marks ds rest after h step =
     }
 
 -- One declaration.
-module _ (marks : List ℕ) (size : length marks ≡ 1026) (table pool : List ℕ) (r : ℕ) (j : ℕ) (read : j ≡ numberOf (nodeAt table pool r .local .bytes)) where
+module _ (marks : List ℕ) (size : length marks ≡ MARKS) (table pool : List ℕ) (r : ℕ) (j : ℕ) (read : j ≡ numberOf (nodeAt table pool r .local .bytes)) where
   abbrev d : Node
   d = nodeAt table pool r
 
-  declared? : (k : ℕ) → 1 ≤ k → k < 1026 → declares (numberedPrefix k) d ≡ eqb j k
+  declared? : (k : ℕ) → 1 ≤ k → k < MARKS → declares (numberedPrefix k) d ≡ eqb j k
   declared? k one few = number-same (d .local .bytes) k one (omega arith) ∙ ap (λ (n : ℕ). eqb n k) (sym read)
 
-  pub marking-one : j < 1026 → Marking marks (d ∷ []) (set marks j 1) []
+  pub marking-one : j < MARKS → Marking marks (d ∷ []) (set marks j 1) []
   marking-one less =
       record {
         size = length-set marks j 1 ∙ size;
@@ -86,7 +84,7 @@ module _ (marks : List ℕ) (size : length marks ≡ 1026) (table pool : List �
       none-true true {b} e = refl
       none-true false {b} e = or-none b ∙ e
 
-  pub marking-none : 1026 ≤ j → Marking marks (d ∷ []) marks []
+  pub marking-none : MARKS ≤ j → Marking marks (d ∷ []) marks []
   marking-none more =
       record {
         size = size;
@@ -98,18 +96,18 @@ module _ (marks : List ℕ) (size : length marks ≡ 1026) (table pool : List �
 
 -- The walk along an element's declarations has come to r.
 pub record Walked (table pool : List ℕ) (e : ℕ) (start marks : List ℕ) (r : ℕ) : Type 0 where
-  pub stop : Stop (owned table 13 e) (rowCount table) r
-  pub left : Marking start (ownDeclarations (nodes table pool) e) marks (rowsFrom table pool 13 e r)
+  pub stop : Stop (owned table DECLARATION e) (rowCount table) r
+  pub left : Marking start (ownDeclarations (nodes table pool) e) marks (rowsFrom table pool DECLARATION e r)
 
-module _ (table pool first next : List ℕ) (ready : Ready table first next) (e : ℕ) (within : e < rowCount table) (start : List ℕ) where
+module _ (table pool first next : List ℕ) (ready : Ready table first next) (e : ℕ) (element : Element table e) (start : List ℕ) where
   inside : e < length first
-  inside = omega (arith, ready .places)
+  inside = omega (arith, ready .places, element .within)
 
-  pub walked-first : length start ≡ 1026 → (r : ℕ) → r ≡ getD first e 0 → Walked table pool e start start r
+  pub walked-first : length start ≡ MARKS → (r : ℕ) → r ≡ getD first e 0 → Walked table pool e start start r
   walked-first size r read =
       rw read
       (record {
-        stop = stop-first (owned table 13) (rowCount table) first next (ready .linked) (ready .limit) e inside;
+        stop = stop-first (owned table DECLARATION) (rowCount table) first next (ready .linked) (ready .limit) e inside;
         left =
             subst (Marking start (ownDeclarations (nodes table pool) e) start)
             (declarations-first table pool first next (ready .linked) (ready .limit) e inside)
@@ -118,70 +116,68 @@ module _ (table pool first next : List ℕ) (ready : Ready table first next) (e 
 
   module _ (marks : List ℕ) (r : ℕ) (walked : Walked table pool e start marks r) where
     pub walked-end : rowCount table ≤ r → Marking start (ownDeclarations (nodes table pool) e) marks []
-    walked-end past = subst (Marking start (ownDeclarations (nodes table pool) e) marks) (rows-end table pool 13 e r past) (walked .left)
+    walked-end past = subst (Marking start (ownDeclarations (nodes table pool) e) marks) (rows-end table pool DECLARATION e r past) (walked .left)
 
     module _ (less : r < rowCount table) where
+      pub walked-room : r < length next
+      walked-room = omega (arith, ready .linked .room)
+
       pub walked-falls : (r′ : ℕ) → r′ ≡ getD next r 0 → r < r′
       walked-falls r′ read =
           rw read
-          (next-later (owned table 13) (rowCount table) first next (ready .linked) (ready .limit) e inside r less (walked .stop less))
+          (next-later (owned table DECLARATION) (rowCount table) first next (ready .linked) (ready .limit) e inside r less (walked .stop less))
 
       pub walked-next : (after : List ℕ) → Marking marks (nodeAt table pool r ∷ []) after [] → (r′ : ℕ) → r′ ≡ getD next r 0 → Walked table pool e start after r′
       walked-next after one r′ read =
           rw read
           (record {
-            stop = stop-next (owned table 13) (rowCount table) first next (ready .linked) (ready .limit) e inside r less (walked .stop less);
+            stop = stop-next (owned table DECLARATION) (rowCount table) first next (ready .linked) (ready .limit) e inside r less (walked .stop less);
             left =
-                marking-step start (ownDeclarations (nodes table pool) e) marks (nodeAt table pool r ∷ []) (rowsFrom table pool 13 e (getD next r 0)) after
+                marking-step start (ownDeclarations (nodes table pool) e) marks (nodeAt table pool r ∷ []) (rowsFrom table pool DECLARATION e (getD next r 0)) after
                 (subst (Marking start (ownDeclarations (nodes table pool) e) marks)
-                (rows-next table pool 13 first next (ready .linked) (ready .limit) e inside r less (walked .stop less)) (walked .left))
+                (rows-next table pool DECLARATION first next (ready .linked) (ready .limit) e inside r less (walked .stop less)) (walked .left))
                 one;
           })
 
--- The climb from an element has come to e, whose scope is still to be marked.
-pub record Climbed (table pool : List ℕ) (bottom : ℕ) (start marks : List ℕ) (e : ℕ) : Type 0 where
-  pub low : e ≤ bottom
-  pub element : Element table e
-  pub left : Marking start (scopeAt (nodes table pool) bottom) marks (scopeAt (nodes table pool) e)
+-- The search along a path has come to position i: what is declared from there on is still to be marked.
+module _ (table pool path start : List ℕ) where
+  abbrev ns : List Node
+  ns = nodes table pool
 
-module _ (table pool : List ℕ) (bottom : ℕ) (start marks : List ℕ) (e : ℕ) (climbed : Climbed table pool bottom start marks e)
-    (u : ℕ) (up : Up (nodes table pool) e u) (after : List ℕ) (own : Marking marks (ownDeclarations (nodes table pool) e) after []) where
-  -- with `rest` above the element
-  onward : (rest : List Node) → scopeAt (nodes table pool) e ≡ ownDeclarations (nodes table pool) e ++ rest → Marking start (scopeAt (nodes table pool) bottom) after rest
-  onward rest split =
-      marking-step start (scopeAt (nodes table pool) bottom) marks (ownDeclarations (nodes table pool) e) rest after
-      (subst (Marking start (scopeAt (nodes table pool) bottom) marks) split (climbed .left))
-      own
+  abbrev pub Passed : List ℕ → ℕ → Type 0
+  Passed marks i = Marking start (scopeOf ns path) marks (scopeOf ns (drop i path))
 
-  pub climbed-next : u < e → Climbed table pool bottom start after u
-  climbed-next falls =
-      record {
-        low = omega (arith, climbed .low);
-        element = outer-element table pool e (climbed .element) u up falls;
-        left = onward (scopeAt (nodes table pool) u) (scope-outer table pool e (climbed .element) u up falls);
-      }
+  pub passed-first : length start ≡ MARKS → Passed start 0
+  passed-first size = marking-start start (scopeOf ns path) size
 
-  pub climbed-end : e ≤ u → Marking start (scopeAt (nodes table pool) bottom) after []
-  climbed-end stays = onward [] (scope-outermost table pool e (climbed .element) u up stays)
+  pub passed-next :
+      (marks : List ℕ) (i : ℕ) → Passed marks i → i < length path → (e : ℕ) → e ≡ getD path i 0 → (after : List ℕ)
+      → Marking marks (ownDeclarations ns e) after [] → Passed after (i + 1)
+  passed-next marks i passed less e here after own =
+      marking-step start (scopeOf ns path) marks (ownDeclarations ns e) (scopeOf ns (drop (i + 1) path)) after
+      (subst (Marking start (scopeOf ns path) marks) (path-split ns path i less e here) passed) own
+
+  pub passed-end : (marks : List ℕ) (i : ℕ) → Passed marks i → length path ≤ i → Marking start (scopeOf ns path) marks []
+  passed-end marks i passed past = subst (Marking start (scopeOf ns path) marks) (path-past ns path i past) passed
 
 -- The scan for the first number without a mark.
-module _ (marks : List ℕ) (k : ℕ) (less : k < 1025) where
-  steps : 1025 - k ≡ suc (1025 - (k + 1))
+module _ (marks : List ℕ) (k : ℕ) (less : k < (MOST-ROWS + 1)) where
+  steps : (MOST-ROWS + 1) - k ≡ suc ((MOST-ROWS + 1) - (k + 1))
   steps = omega arith
 
-  scan : leastUnmarked (1025 - k) marks k ≡ cond (eqb (getD marks k 0) 1) (leastUnmarked (1025 - (k + 1)) marks (k + 1)) k
+  scan : leastUnmarked ((MOST-ROWS + 1) - k) marks k ≡ cond (eqb (getD marks k 0) 1) (leastUnmarked ((MOST-ROWS + 1) - (k + 1)) marks (k + 1)) k
   unfolding leastUnmarked
   scan = ap (λ (n : ℕ). leastUnmarked n marks k) steps ∙ rw (add-one k) refl
 
-  pub scan-next : getD marks k 0 ≡ 1 → leastUnmarked (1025 - (k + 1)) marks (k + 1) ≡ leastUnmarked (1025 - k) marks k
+  pub scan-next : getD marks k 0 ≡ 1 → leastUnmarked ((MOST-ROWS + 1) - (k + 1)) marks (k + 1) ≡ leastUnmarked ((MOST-ROWS + 1) - k) marks k
   scan-next q = sym (scan ∙ rw (eq-eqb (getD marks k 0) 1 q) refl)
 
-  pub scan-hit : (getD marks k 0 ≡ 1 → ⊥) → leastUnmarked (1025 - k) marks k ≡ k
+  pub scan-hit : (getD marks k 0 ≡ 1 → ⊥) → leastUnmarked ((MOST-ROWS + 1) - k) marks k ≡ k
   scan-hit q = scan ∙ rw (ne-eqb (getD marks k 0) 1 q) refl
 
-pub scan-end : (marks : List ℕ) (k : ℕ) → 1025 ≤ k → leastUnmarked (1025 - k) marks k ≡ k
+pub scan-end : (marks : List ℕ) (k : ℕ) → (MOST-ROWS + 1) ≤ k → leastUnmarked ((MOST-ROWS + 1) - k) marks k ≡ k
 unfolding leastUnmarked
-scan-end marks k more = let none? : 1025 - k ≡ 0 = omega arith in ap (λ (n : ℕ). leastUnmarked n marks k) none?
+scan-end marks k more = let none? : (MOST-ROWS + 1) - k ≡ 0 = omega arith in ap (λ (n : ℕ). leastUnmarked n marks k) none?
 
 -- The scan finds what the definition finds.
 unmarked-free : (marks : List ℕ) (scope : List Node) (steps k : ℕ) → ((j : ℕ) → k ≤ j → j < k + steps → eqb (getD marks j 0) 1 ≡ anyOf (declares (numberedPrefix j)) scope) → leastUnmarked steps marks k ≡ leastFree steps scope k
@@ -201,15 +197,12 @@ free-more scope (suc steps) (suc more) k enough free =
     (λ q. rw q (free-more scope steps more (suc k) (omega arith) (rw q at free)))
     (λ q. rw q refl)
 
-pub unmarked-least : (table pool : List ℕ) (e : ℕ) → rowCount table ≤ 1024 → (marks : List ℕ) → Marking (replicate 1026 0) (scopeAt (nodes table pool) e) marks [] → leastUnmarked 1024 marks 1 ≡ leastFree (length (scopeAt (nodes table pool) e)) (scopeAt (nodes table pool) e) 1
-unmarked-least table pool e few marks h =
-    let scope = scopeAt (nodes table pool) e in
-    let count = scope-count (nodes table pool) e in
-    let size = length-nodes table pool in
-    unmarked-free marks scope 1024 1 (λ j low high. marked-scope marks scope h j low (omega arith))
-    ∙ free-more scope (length scope) 1024 1 (omega arith) (least-free scope 1)
+pub unmarked-least : (scope : List Node) → length scope ≤ MOST-ROWS → (marks : List ℕ) → Marking (replicate MARKS 0) scope marks [] → leastUnmarked MOST-ROWS marks 1 ≡ leastFree (length scope) scope 1
+unmarked-least scope count marks h =
+    unmarked-free marks scope MOST-ROWS 1 (λ j low high. marked-scope marks scope h j low (omega arith))
+    ∙ free-more scope (length scope) MOST-ROWS 1 (omega arith) (least-free scope 1)
   where
-    marked-scope : (marks : List ℕ) (scope : List Node) → Marking (replicate 1026 0) scope marks [] → (j : ℕ) → 1 ≤ j → j < 1026 → eqb (getD marks j 0) 1 ≡ anyOf (declares (numberedPrefix j)) scope
+    marked-scope : (marks : List ℕ) (scope : List Node) → Marking (replicate MARKS 0) scope marks [] → (j : ℕ) → 1 ≤ j → j < MARKS → eqb (getD marks j 0) 1 ≡ anyOf (declares (numberedPrefix j)) scope
     marked-scope marks scope h j one few =
         sym (or-none (eqb (getD marks j 0) 1)) ∙ h .each j one few
-        ∙ ap (λ (n : ℕ). eqb n 1 || anyOf (declares (numberedPrefix j)) scope) (getD-replicate {A = ℕ} 1026 j 0 0 few)
+        ∙ ap (λ (n : ℕ). eqb n 1 || anyOf (declares (numberedPrefix j)) scope) (getD-replicate {A = ℕ} MARKS j 0 0 few)

@@ -14,7 +14,7 @@ use borrow.Author.Tests.{lt-ltb, ltb-true, ltb-false, le-leb, leb-true, eqb-true
 use Rattle.rules.specs.Lists.{sameBytes}
 use Rattle.rules.specs.Normalization.{digits, numberedPrefix}
 use Rattle.rules.proofs.Lists.{by-cases, both-true, true-both, either-left, either-right, sameBytes-equal, equal-sameBytes, unequal-sameBytes}
-use Rattle.buffers.proofs.Numbered.{digits-last, digits-more}
+use Rattle.rules.proofs.Prefixes.{digits-last, digits-more}
 use Rattle.numbering.specs.Numbers.{follows, readAfter, numberOf}
 
 -- The digits of a number with one more digit.

@@ -1,32 +1,83 @@
-// The least number whose NS prefix is not declared in scope at an element: one pass over the scope
-// marks the numbers in use, and the first number without a mark is free.
+// The least number whose NS prefix is not declared along a path of elements: one pass over the
+// declarations marks the numbers in use, and the first number without a mark is free.
 ghost use mathlib.Core.Path.{_≡_};
 ghost use mathlib.Core.List.{[], _∷_};
-ghost use Prim.Native.Nat.{_+_, _≤_, _<_};
+ghost use Prim.Native.Nat.{_≤_, _<_};
 ghost use lib.ListN.{length};
-ghost use Rattle.rules.specs.Table.{nodes, nodeAt, rowCount};
-ghost use Rattle.rules.specs.Lookups.{ownDeclarations, scopeAt};
+ghost use Rattle.rules.specs.Table.{MOST-ROWS, nodes, nodeAt, rowCount};
+ghost use Rattle.rules.specs.Lookups.{ownDeclarations, scopeOf};
 ghost use Rattle.rules.specs.Normalization.{leastFree};
-ghost use Rattle.scope.specs.Ready.{Ready, Element, Upward};
+ghost use Rattle.links.specs.Links.{Ready};
+ghost use Rattle.ancestors.specs.Paths.{Element};
+ghost use Rattle.in_scope.specs.Along.{Along};
 ghost use Rattle.numbering.specs.Numbers.{follows, numberOf};
-ghost use Rattle.numbering.specs.Marks.{Marking, leastUnmarked};
+ghost use Rattle.numbering.specs.Marks.{MARKS, Marking, leastUnmarked};
 use rules::Row;
 
-fn wide(x: u32) -> usize
-    ensures { λ r. ⌜ r ≡ x ⌝ }
+// A mark for each number that may be in use, one for the number after them, and mark 0 for nothing.
+const MARKS: usize = rules::MOST_ROWS + 2;
+
+// The least number from 1 whose NS prefix is not declared along a path.
+pub fn least_free(table: &[u32], pool: &[u8], first: &[u32], next: &[u32], path: &[u32]) -> u32
+    requires { ⌜ Along (now table) (now first) (now next) (now path) ⌝ }
+    requires { ⌜ length (scopeOf (nodes (now table) (now pool)) (now path)) ≤ MOST-ROWS ⌝ }
+    ensures { λ r. ⌜ r ≡ leastFree (length (scopeOf (nodes (now (table .entry)) (now (pool .entry))) (now (path .entry)))) (scopeOf (nodes (now (table .entry)) (now (pool .entry))) (now (path .entry))) 1 ⌝ }
 {
-    x as usize
+    let mut marks: [u8; MARKS] = [0; MARKS];
+    mark_path(table, pool, first, next, path, &mut marks);
+    least_unmarked(&marks)
 }
 
-// The byte is a digit that may follow the digits of a number.
-fn follows(front: u32, byte: u8) -> bool
-    ensures { λ r. ⌜ r ≡ follows front byte ⌝ }
+// Marks the numbers of the declarations along a path.
+fn mark_path(
+    table: &[u32],
+    pool: &[u8],
+    first: &[u32],
+    next: &[u32],
+    path: &[u32],
+    marks: &mut [u8],
+)
+    requires { ⌜ Along (now table) (now first) (now next) (now path) ⌝ }
+    requires { ⌜ length (now marks) ≡ MARKS ⌝ }
+    ensures { λ _. ⌜ Marking (now (marks .entry)) (scopeOf (nodes (now (table .entry)) (now (pool .entry))) (now (path .entry))) (now (marks .exit)) [] ⌝ }
 {
-    (byte >= 48) & (byte <= 57) & (front < 1000) & ((front > 0) | (byte > 48))
+    let mut i: usize = 0;
+    while i < path.len() {
+        mark_own(table, pool, first, next, rows::row_at(path, i), marks);
+        i += 1;
+    }
+}
+
+// Marks the numbers of an element's own declarations.
+fn mark_own(table: &[u32], pool: &[u8], first: &[u32], next: &[u32], element: Row, marks: &mut [u8])
+    requires { ⌜ Ready (now table) (now first) (now next) ⌝ }
+    requires { ⌜ Element (now table) (element .0) ⌝ }
+    requires { ⌜ length (now marks) ≡ MARKS ⌝ }
+    ensures { λ _. ⌜ Marking (now (marks .entry)) (ownDeclarations (nodes (now (table .entry)) (now (pool .entry))) (element .0)) (now (marks .exit)) [] ⌝ }
+{
+    let e = element.0;
+    let mut row = rows::linked(first, Row(e));
+    while rows::has_row(table, row) {
+        mark(table, pool, row, marks);
+        row = rows::linked(next, row);
+    }
+}
+
+// Marks the number of a declaration whose prefix is an NS prefix.
+fn mark(table: &[u32], pool: &[u8], declaration: Row, marks: &mut [u8])
+    requires { ⌜ declaration .0 < rowCount (now table) ⌝ }
+    requires { ⌜ length (now marks) ≡ MARKS ⌝ }
+    ensures { λ _. ⌜ Marking (now (marks .entry)) (nodeAt (now (table .entry)) (now (pool .entry)) (declaration .0) ∷ []) (now (marks .exit)) [] ⌝ }
+{
+    let prefix = rows::field(table, pool, declaration, rules::LOCAL_NAME);
+    let k = rows::wide(numbered(prefix));
+    if k < marks.len() {
+        marks[k] = 1;
+    }
 }
 
 // The k from 1 to 9999 of the name NSk, or 0.
-pub fn numbered(name: &[u8]) -> u32
+fn numbered(name: &[u8]) -> u32
     ensures { λ r. ⌜ r ≡ numberOf (now (name .entry)) ⌝ }
 {
     if name.len() < 2 {
@@ -51,93 +102,24 @@ pub fn numbered(name: &[u8]) -> u32
     k
 }
 
-// Marks the number of a declaration whose prefix is an NS prefix.
-fn mark(table: &[u32], pool: &[u8], marks: &mut [u8], row: Row)
-    requires { ⌜ row .0 < rowCount (now table) ⌝ }
-    requires { ⌜ length (now marks) ≡ 1026 ⌝ }
-    ensures { λ _. ⌜ Marking (now (marks .entry)) (nodeAt (now (table .entry)) (now (pool .entry)) (row .0) ∷ []) (now (marks .exit)) [] ⌝ }
+// The byte is a digit that may follow the digits of a number.
+fn follows(front: u32, byte: u8) -> bool
+    ensures { λ r. ⌜ r ≡ follows front byte ⌝ }
 {
-    let k = wide(numbered(rows::field_within(table, pool, row, 4)));
-    if k < marks.len() {
-        marks[k] = 1;
-    }
+    (byte >= 48) & (byte <= 57) & (front < 1000) & ((front > 0) | (byte > 48))
 }
 
-// Marks the numbers of an element's own declarations.
-fn mark_own(table: &[u32], pool: &[u8], first: &[u32], next: &[u32], marks: &mut [u8], element: Row)
-    requires { ⌜ Ready (now table) (now first) (now next) ⌝ }
-    requires { ⌜ Element (now table) (element .0) ⌝ }
-    requires { ⌜ length (now marks) ≡ 1026 ⌝ }
-    ensures { λ _. ⌜ Marking (now (marks .entry)) (ownDeclarations (nodes (now (table .entry)) (now (pool .entry))) (element .0)) (now (marks .exit)) [] ⌝ }
-{
-    let n = table.len() / 10;
-    let e = wide(element.0);
-    let mut r = wide(first[e]);
-    while r < n {
-        mark(table, pool, marks, Row(r as u32));
-        r = wide(next[r]);
-    }
-}
-
-// Marks the numbers of the declarations in scope at an element.
-fn mark_scope(
-    table: &[u32],
-    pool: &[u8],
-    first: &[u32],
-    next: &[u32],
-    up: &[u32],
-    marks: &mut [u8],
-    element: Row,
-)
-    requires { ⌜ Ready (now table) (now first) (now next) ⌝ }
-    requires { ⌜ Element (now table) (element .0) ⌝ }
-    requires { ⌜ Upward (nodes (now table) (now pool)) (now up) (element .0 + 1) ⌝ }
-    requires { ⌜ length (now marks) ≡ 1026 ⌝ }
-    ensures { λ _. ⌜ Marking (now (marks .entry)) (scopeAt (nodes (now (table .entry)) (now (pool .entry))) (element .0)) (now (marks .exit)) [] ⌝ }
-{
-    let start = wide(element.0);
-    let mut e = start;
-    loop {
-        mark_own(table, pool, first, next, marks, Row(e as u32));
-        let outer = wide(up[e]);
-        if e <= outer {
-            return;
-        }
-        e = outer;
-    }
-}
-
-// The least number from 1 that is not marked; 1025 if all before it are.
+// The least number from 1 that is not marked, or the one after all of them.
 fn least_unmarked(marks: &[u8]) -> u32
-    requires { ⌜ length (now marks) ≡ 1026 ⌝ }
-    ensures { λ r. ⌜ r ≡ leastUnmarked 1024 (now (marks .entry)) 1 ⌝ }
+    requires { ⌜ length (now marks) ≡ MARKS ⌝ }
+    ensures { λ r. ⌜ r ≡ leastUnmarked MOST-ROWS (now (marks .entry)) 1 ⌝ }
 {
-    let mut k: u32 = 1;
-    while k < 1025 {
-        if marks[wide(k)] != 1 {
-            return k;
+    let mut k: usize = 1;
+    while k <= rules::MOST_ROWS {
+        if marks[k] != 1 {
+            return k as u32;
         }
         k += 1;
     }
-    k
-}
-
-// The least number from 1 whose NS prefix is not declared in scope at an element.
-pub fn least_free(
-    table: &[u32],
-    pool: &[u8],
-    first: &[u32],
-    next: &[u32],
-    up: &[u32],
-    element: Row,
-) -> u32
-    requires { ⌜ Ready (now table) (now first) (now next) ⌝ }
-    requires { ⌜ Element (now table) (element .0) ⌝ }
-    requires { ⌜ Upward (nodes (now table) (now pool)) (now up) (element .0 + 1) ⌝ }
-    requires { ⌜ rowCount (now table) ≤ 1024 ⌝ }
-    ensures { λ r. ⌜ r ≡ leastFree (length (scopeAt (nodes (now (table .entry)) (now (pool .entry))) (element .0))) (scopeAt (nodes (now (table .entry)) (now (pool .entry))) (element .0)) 1 ⌝ }
-{
-    let mut marks: [u8; 1026] = [0; 1026];
-    mark_scope(table, pool, first, next, up, &mut marks, element);
-    least_unmarked(&marks)
+    k as u32
 }

@@ -1,82 +1,43 @@
 -- What the code decides is what the definitions repair by: a law for each answer of each function.
 -- Assumes nothing.
 use Prim.Native.Nat.{ℕ, _<_}
-use mathlib.Core.Path.{_≡_, refl, sym, _∙_, ap}
-use mathlib.Core.Bool.{Bool, true, false, _&&_, not}
+use mathlib.Core.Path.{_≡_, refl, sym, _∙_, ap, subst}
+use mathlib.Core.Bool.{Bool, true, false, cond}
 use mathlib.Core.List.{List, []}
 use native.Mathlib.Omega.{arith}
 use lib.ListN.{length}
-use Rattle.rules.specs.Lists.{isEmpty, sameBytes}
-use Rattle.rules.specs.Table.{xmlPrefix, xmlnsPrefix, Field, Node, nodes, node, fieldAt, rowCount}
-use Rattle.rules.specs.Lookups.{scopeAt, Binding, declared, builtInXml, builtInXmlns, unbound, inScopeUri, uriBytes, inScopePrefix, place, bound}
-use Rattle.rules.specs.Normalization.{takeDeclared, takeBuiltIn, repairByDeclaring, repairBy, repairOf, repairElement, declare}
+use lib.Dec.{eqb}
+use borrow.Author.Tests.{eqb-true}
+use Rattle.rules.specs.Lists.{sameBytes}
+use Rattle.rules.specs.Table.{PREFIX, URI, ATTRIBUTE, xmlPrefix, xmlnsPrefix, Field, Node, nodes, node, fieldAt, rowCount}
+use Rattle.rules.specs.Lookups.{scopeOf, Binding, declared, builtInXml, builtInXmlns, unbound, inScopeUri, uriBytes, inScopePrefix, place, bound}
+use Rattle.rules.specs.Normalization.{keep, takeDeclared, takeBuiltIn, repairByDeclaring, repairBy, repairOf}
+use Rattle.rules.specs.Demands.{attributeMeansIn, attributeMeans}
 use Rattle.rules.specs.declared.Place.{Place}
 use Rattle.rules.specs.declared.Refusal.{Refusal}
 use Rattle.rules.specs.declared.InScope.{InScope}
-use Rattle.rules.proofs.Lists.{by-cases, sameBytes-refl, sameBytes-empty}
-use Rattle.rules.proofs.Table.{node-nodes}
-use Rattle.scope.specs.Ready.{placeAt}
-use Rattle.scope.proofs.Answers.{empty-yes, empty-no}
-use Rattle.repair.specs.declared.Decision.{Decision}
-use Rattle.repair.specs.Deciding.{settled, decision}
-use Rattle.repair.specs.Working.{fieldIn}
+use Rattle.rules.proofs.Lists.{both-true, sameBytes-refl, sameBytes-empty}
+use Rattle.rules.proofs.Repairs.{attribute-by-meaning}
+use Rattle.rules.proofs.Table.{length-nodes, node-nodes}
+use Rattle.in_scope.specs.Along.{Reaches}
+use Rattle.in_scope.proofs.Answers.{empty-yes, empty-no}
+use Rattle.repair.specs.declared.decision.Decision.{Decision}
+use Rattle.repair.specs.Deciding.{decision}
+use Rattle.repair.specs.Working.{Attribute}
 
--- The fields of a row, as the code reads them.
-module _ (table pool : List ℕ) (r : ℕ) (within : r < rowCount table) where
-  pub prefix-field : fieldAt table pool r 2 ≡ node (nodes table pool) r .prefix
-  prefix-field = ap (λ (n : Node). n .prefix) (sym (node-nodes table pool r within))
+pub attribute-within : (table pool : List ℕ) {e r : ℕ} → Attribute (nodes table pool) e r → r < rowCount table
+attribute-within table pool {r = r} g = subst (λ (n : ℕ). r < n) (length-nodes table pool) (g .within)
 
-  pub uri-field : fieldAt table pool r 6 ≡ node (nodes table pool) r .uri
-  uri-field = ap (λ (n : Node). n .uri) (sym (node-nodes table pool r within))
+-- An attribute of element e, as one of its owner.
+module _ {ns : List Node} {e r : ℕ} (g : Attribute ns e r) where
+  owner-is : node ns r .parent ≡ e
+  owner-is = eqb-true (node ns r .parent) e (both-true (eqb (node ns r .type) ATTRIBUTE) (eqb (node ns r .parent) e) (g .owned) .1)
 
-  pub prefix-bytes : {bytes : List ℕ} → bytes ≡ fieldAt table pool r 2 .bytes → bytes ≡ node (nodes table pool) r .prefix .bytes
-  prefix-bytes e = e ∙ ap (λ (f : Field). f .bytes) prefix-field
+  pub of-owner : Attribute ns (node ns r .parent) r
+  of-owner = subst (λ (x : ℕ). Attribute ns x r) (sym owner-is) g
 
-  pub uri-bytes : {bytes : List ℕ} → bytes ≡ fieldAt table pool r 6 .bytes → bytes ≡ node (nodes table pool) r .uri .bytes
-  uri-bytes e = e ∙ ap (λ (f : Field). f .bytes) uri-field
-
-  pub prefix-at : {p : Place} → p ≡ placeAt table r 2 → fieldIn pool p ≡ node (nodes table pool) r .prefix
-  prefix-at e = ap (fieldIn pool) e ∙ prefix-field
-
-  pub uri-at : {p : Place} → p ≡ placeAt table r 6 → fieldIn pool p ≡ node (nodes table pool) r .uri
-  uri-at e = ap (fieldIn pool) e ∙ uri-field
-
-pub means-none : (prefix : List ℕ) (test : Bool) → length prefix ≡ 0 → false ≡ (not (isEmpty prefix) && test)
-means-none prefix test e = rw (empty-yes prefix e) refl
-
-pub means-some : (prefix : List ℕ) (test : Bool) → (length prefix ≡ 0 → ⊥) → test ≡ (not (isEmpty prefix) && test)
-means-some prefix test e = rw (empty-no prefix e) refl
-
--- Steps 1 and 2.
-module _ (ns : List Node) (e : ℕ) {uri : List ℕ} (is-uri : uri ≡ node ns e .uri .bytes) where
-  pub settled-none : length uri ≡ 0 → sameBytes (uriBytes (inScopeUri (scopeAt ns e) [])) [] ≡ settled ns e
-  unfolding settled
-  settled-none none? = rw (← is-uri, empty-yes uri none?) (sameBytes-empty (uriBytes (inScopeUri (scopeAt ns e) [])))
-
-  pub settled-some : (length uri ≡ 0 → ⊥) → {prefix : List ℕ} → prefix ≡ node ns e .prefix .bytes → sameBytes (uriBytes (inScopeUri (scopeAt ns e) prefix)) uri ≡ settled ns e
-  unfolding settled
-  settled-some some? is-prefix = rw (← is-uri, ← is-prefix, empty-no uri some?) refl
-
-  pub element-default : settled ns e ≡ false → length uri ≡ 0 → repairElement e ns ≡ declare e (record { offset = 0; size = 0; bytes = [] }) (record { offset = 0; size = 0; bytes = [] }) ns
-  unfolding repairElement settled
-  element-default no? none? =
-      let empty : isEmpty (node ns e .uri .bytes) ≡ true = rw (← is-uri) (empty-yes uri none?) in
-      let test : isEmpty (uriBytes (inScopeUri (scopeAt ns e) [])) ≡ false = rw empty at no? in
-      rw (empty, test) refl
-
-  pub element-prefixed : settled ns e ≡ false → (length uri ≡ 0 → ⊥) → repairElement e ns ≡ declare e (node ns e .prefix) (node ns e .uri) ns
-  unfolding repairElement settled
-  element-prefixed no? some? =
-      let full : isEmpty (node ns e .uri .bytes) ≡ false = rw (← is-uri) (empty-no uri some?) in
-      let test : sameBytes (uriBytes (inScopeUri (scopeAt ns e) (node ns e .prefix .bytes))) (node ns e .uri .bytes) ≡ false = rw full at no? in
-      rw (full, test) refl
-
-pub element-settled : (ns : List Node) (e : ℕ) → settled ns e ≡ true → repairElement e ns ≡ ns
-unfolding repairElement settled
-element-settled ns e yes? =
-    by-cases (isEmpty (node ns e .uri .bytes))
-    (λ q. let test : isEmpty (uriBytes (inScopeUri (scopeAt ns e) [])) ≡ true = rw q at yes? in rw (q, test) refl)
-    (λ q. let test : sameBytes (uriBytes (inScopeUri (scopeAt ns e) (node ns e .prefix .bytes))) (node ns e .uri .bytes) ≡ true = rw q at yes? in rw (q, test) refl)
+  pub reaches-owner : (path : List ℕ) → Reaches ns path e → Reaches ns path (node ns r .parent)
+  reaches-owner path reaches = subst (λ (x : ℕ). Reaches ns path x) (sym owner-is) reaches
 
 -- The decisions of the repairs that take a prefix.
 taken-decision : (f : Field) → Decision.Take (place f) ≡ decision (takeDeclared f)
@@ -91,32 +52,26 @@ xmlns-decision : Decision.Xmlns ≡ decision (takeBuiltIn xmlnsPrefix)
 unfolding decision xmlPrefix xmlnsPrefix
 xmlns-decision = refl
 
--- Step 3.
-module _ (scope : List Node) (a : Node) where
-  abbrev pub free : Bool
-  free = not (isEmpty (a .prefix .bytes)) && sameBytes (uriBytes (inScopeUri scope (a .prefix .bytes))) []
+-- The attribute's URI has no prefix in scope.
+module _ (scope : List Node) (table pool : List ℕ) {r : ℕ} (within : r < rowCount table) {prefix : List ℕ} (read : prefix ≡ fieldAt table pool r PREFIX .bytes) where
+  abbrev a : Node
+  a = node (nodes table pool) r
 
-  same-free : free ≡ (not (isEmpty (a .prefix .bytes)) && isEmpty (uriBytes (inScopeUri scope (a .prefix .bytes))))
-  same-free = rw (sameBytes-empty (uriBytes (inScopeUri scope (a .prefix .bytes)))) refl
+  same-prefix : a .prefix .bytes ≡ prefix
+  same-prefix = ap (λ (n : Node). n .prefix .bytes) (node-nodes table pool r within) ∙ sym read
 
-  pub unbound-declare : free ≡ true → Decision.Declare ≡ decision (repairByDeclaring scope a)
+  pub unbound-none : length prefix ≡ 0 → Decision.Number ≡ decision (repairByDeclaring scope a)
   unfolding decision
-  unbound-declare yes? = rw (sym same-free ∙ yes?) refl
+  unbound-none e = rw (same-prefix, empty-yes prefix e) refl
 
-  pub unbound-number : free ≡ false → Decision.Number ≡ decision (repairByDeclaring scope a)
-  unfolding decision
-  unbound-number no? = rw (sym same-free ∙ no?) refl
+  module _ (full : length prefix ≡ 0 → ⊥) where
+    pub unbound-declare : sameBytes (uriBytes (inScopeUri scope prefix)) [] ≡ true → Decision.Declare ≡ decision (repairByDeclaring scope a)
+    unfolding decision
+    unbound-declare free = rw (same-prefix, empty-no prefix full, sym (sameBytes-empty (uriBytes (inScopeUri scope prefix))) ∙ free) refl
 
-  abbrev pub kept : Bool
-  kept = not (isEmpty (a .prefix .bytes)) && sameBytes (uriBytes (inScopeUri scope (a .prefix .bytes))) (a .uri .bytes)
-
-  pub decide-none : isEmpty (a .uri .bytes) ≡ true → Decision.Keep ≡ decision (repairOf scope a)
-  unfolding decision repairOf
-  decide-none e = rw e refl
-
-  pub decide-keep : isEmpty (a .uri .bytes) ≡ false → kept ≡ true → Decision.Keep ≡ decision (repairOf scope a)
-  unfolding decision repairOf
-  decide-keep full yes? = rw (full, yes?) refl
+    pub unbound-number : sameBytes (uriBytes (inScopeUri scope prefix)) [] ≡ false → Decision.Number ≡ decision (repairByDeclaring scope a)
+    unfolding decision
+    unbound-number taken = rw (same-prefix, empty-no prefix full, sym (sameBytes-empty (uriBytes (inScopeUri scope prefix))) ∙ taken) refl
 
 -- What a lookup answers tells the binding.
 at-is : (b : Binding) {p : Place} → InScope.At p ≡ bound b → (f : Field) × (b ≡ declared f) × (p ≡ place f)
@@ -143,33 +98,71 @@ nothing-is builtInXml e = cc
 nothing-is builtInXmlns e = cc
 nothing-is unbound e = refl
 
--- The attribute has a URI, and its prefix does not mean it.
-pub record Unkept (scope : List Node) (a : Node) : Type 0 where
-  pub full : isEmpty (a .uri .bytes) ≡ false
-  pub other : kept scope a ≡ false
+-- Row r does not mean its URI, and this is what the lookup of an in-scope prefix of its URI answered.
+pub record Looked (ns : List Node) (path : List ℕ) (r : ℕ) (answer : InScope) : Type 0 where
+  pub repair : repairOf (scopeOf ns path) (node ns r) ≡ repairBy (inScopePrefix (scopeOf ns path) (node ns r .uri .bytes)) (repairByDeclaring (scopeOf ns path) (node ns r))
+  pub found : answer ≡ bound (inScopePrefix (scopeOf ns path) (node ns r .uri .bytes))
 
-module _ {scope : List Node} {a : Node} (u : Unkept scope a) where
-  by-binding : (b : Binding) → inScopePrefix scope (a .uri .bytes) ≡ b → decision (repairBy b (repairByDeclaring scope a)) ≡ decision (repairOf scope a)
-  unfolding repairOf
-  by-binding b e = rw (u .full, u .other, e) refl
+-- Attribute r of an element whose scope is that of the path.
+module _ (table pool path : List ℕ) {r : ℕ}
+    (g : Attribute (nodes table pool) (node (nodes table pool) r .parent) r) (reaches : Reaches (nodes table pool) path (node (nodes table pool) r .parent)) where
+  abbrev ns : List Node
+  ns = nodes table pool
 
-  pub decide-take : {p : Place} → InScope.At p ≡ bound (inScopePrefix scope (a .uri .bytes)) → Decision.Take p ≡ decision (repairOf scope a)
+  abbrev scope : List Node
+  scope = scopeOf ns path
+
+  abbrev n : Node
+  n = node ns r
+
+  by-meaning : (t : Bool) → attributeMeans ns r ≡ t → repairOf scope n ≡ cond t keep (repairBy (inScopePrefix scope (n .uri .bytes)) (repairByDeclaring scope n))
+  unfolding attributeMeans
+  by-meaning t means =
+      attribute-by-meaning scope n (g .prefixHasUri)
+      ∙ ap (λ b. cond b keep (repairBy (inScopePrefix scope (n .uri .bytes)) (repairByDeclaring scope n))) (ap (λ l. attributeMeansIn l n) reaches ∙ means)
+
+  pub decide-keep : attributeMeans ns r ≡ true → Decision.Keep ≡ decision (repairOf scope n)
+  unfolding decision
+  decide-keep means = sym (ap decision (by-meaning true means))
+
+  pub looked : attributeMeans ns r ≡ false → {uri : List ℕ} → uri ≡ fieldAt table pool r URI .bytes → {answer : InScope} → answer ≡ bound (inScopePrefix scope uri) → Looked ns path r answer
+  looked other read found =
+      record {
+        repair = by-meaning false other;
+        found =
+            found
+            ∙ ap (λ u. bound (inScopePrefix scope u))
+            (read ∙ sym (ap (λ (m : Node). m .uri .bytes) (node-nodes table pool r (attribute-within table pool g))));
+      }
+
+-- The decision, by the lookup's answer.
+module _ {ns : List Node} {path : List ℕ} {r : ℕ} {answer : InScope} (l : Looked ns path r answer) where
+  abbrev along : List Node
+  along = scopeOf ns path
+
+  by-binding : (b : Binding) → inScopePrefix along (node ns r .uri .bytes) ≡ b → decision (repairBy b (repairByDeclaring along (node ns r))) ≡ decision (repairOf along (node ns r))
+  by-binding b is = ap decision (sym (l .repair ∙ ap (λ c. repairBy c (repairByDeclaring along (node ns r))) is))
+
+  pub decide-take : {p : Place} → answer ≡ InScope.At p → Decision.Take p ≡ decision (repairOf along (node ns r))
   decide-take e =
-      let told = at-is _ e in
+      let told = at-is _ (sym e ∙ l .found) in
       ap Decision.Take (told .2) ∙ taken-decision (told .0) ∙ by-binding _ (told .1)
 
-  pub decide-xml : InScope.Xml ≡ bound (inScopePrefix scope (a .uri .bytes)) → Decision.Xml ≡ decision (repairOf scope a)
-  decide-xml e = xml-decision ∙ by-binding _ (xml-is _ e)
+  pub decide-xml : answer ≡ InScope.Xml → Decision.Xml ≡ decision (repairOf along (node ns r))
+  decide-xml e = xml-decision ∙ by-binding _ (xml-is _ (sym e ∙ l .found))
 
-  pub decide-xmlns : InScope.Xmlns ≡ bound (inScopePrefix scope (a .uri .bytes)) → Decision.Xmlns ≡ decision (repairOf scope a)
-  decide-xmlns e = xmlns-decision ∙ by-binding _ (xmlns-is _ e)
+  pub decide-xmlns : answer ≡ InScope.Xmlns → Decision.Xmlns ≡ decision (repairOf along (node ns r))
+  decide-xmlns e = xmlns-decision ∙ by-binding _ (xmlns-is _ (sym e ∙ l .found))
 
-  pub decide-nothing : InScope.Nothing ≡ bound (inScopePrefix scope (a .uri .bytes)) → decision (repairByDeclaring scope a) ≡ decision (repairOf scope a)
-  decide-nothing e = by-binding _ (nothing-is _ e)
+  pub decide-nothing : answer ≡ InScope.Nothing → decision (repairByDeclaring along (node ns r)) ≡ decision (repairOf along (node ns r))
+  decide-nothing e = by-binding _ (nothing-is _ (sym e ∙ l .found))
 
--- A lookup of what is in scope is not refused.
-pub never-refused : (b : Binding) (x : Refusal) (p q : Decision) → InScope.Refused x ≡ bound b → p ≡ q
-never-refused (declared f) x p q e = cc
-never-refused builtInXml x p q e = cc
-never-refused builtInXmlns x p q e = cc
-never-refused unbound x p q e = cc
+  -- A lookup of what is in scope is not refused.
+  pub never-refused : {x : Refusal} → answer ≡ InScope.Refused x → (p q : Decision) → p ≡ q
+  never-refused {x} e p q = never (inScopePrefix along (node ns r .uri .bytes)) (sym e ∙ l .found)
+    where
+      never : (b : Binding) → InScope.Refused x ≡ bound b → p ≡ q
+      never (declared f) e = cc
+      never builtInXml e = cc
+      never builtInXmlns e = cc
+      never unbound e = cc

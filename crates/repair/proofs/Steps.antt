@@ -1,159 +1,117 @@
--- What single writes do to the working buffers.
+-- What a declaration set or appended does to the table.
 -- Assumes nothing.
 use Prim.Native.Nat.{ℕ, _+_, _*_, _≤_, _<_}
-use mathlib.Core.Path.{_≡_, refl, sym, _∙_, ap, subst}
-use mathlib.Core.Bool.{true, false}
+use mathlib.Core.Path.{_≡_, refl, sym, _∙_, ap, ap₂, subst}
+use mathlib.Core.Bool.{true, false, cond}
 use mathlib.Core.List.{List, [], _∷_, _++_}
 use mathlib.Core.Option.{none, some, Option·none-ne-some}
 use native.Mathlib.Omega.{arith}
-use lib.ListN.{length, getD, take, set, length-set, length-append, List·getD-append}
-use lib.Seq.{length-take-le, getD-take, getD-set-other}
+use lib.ListN.{length, take, set, length-append}
+use lib.Seq.{length-take-le}
 use borrow.Author.Tests.{lt-ltb, le-ltb}
 use Rattle.rules.specs.Lists.{firstThat, anyOf}
-use Rattle.rules.specs.Table.{Field, Node, node, word, rowCount, isElement}
-use Rattle.rules.specs.Lookups.{isDeclarationOf, ownDeclarations, declares}
-use Rattle.rules.specs.Normalization.{newDeclaration, withValue, isOwnDeclaration, declare}
+use Rattle.rules.specs.Table.{WIDTH, PREFIX, URI, VALUE, Field, Node, node, fieldAt, rowCount, words}
+use Rattle.rules.specs.Lookups.{isDeclarationOf, ownDeclarations, declares, place}
+use Rattle.rules.specs.Normalization.{newDeclaration, withValue, isOwnDeclaration, declare, repairElement}
+use Rattle.rules.specs.Demands.{elementMeans}
 use Rattle.rules.specs.declared.Place.{Place}
+use Rattle.rules.proofs.Accepted.{Plain}
 use Rattle.rules.proofs.Lists.{by-cases, true-both, anyOf-filtered, filtered-passes, firstThat-passes, firstThat-none, none-firstThat, allOf-firstThat}
+use Rattle.rules.proofs.Repairs.{element-by-meaning}
+use Rattle.rules.proofs.Table.{node-nodes, word-words}
 use Rattle.rules.proofs.Unique.{Unique, revalued-is-set}
-use Rattle.index.specs.Links.{Linked, Index, owned}
-use Rattle.index.proofs.Appended.{linked-same, ended-same}
-use Rattle.climb.specs.Found.{found}
-use Rattle.scope.specs.Ready.{Ready, Element}
-use Rattle.buffers.specs.Writes.{written, declarationWords}
-use Rattle.buffers.proofs.Meaning.{appended, length-rows, node-of-buffer, appended-row, set-value-rows}
-use Rattle.buffers.proofs.Writes.{length-written}
-use Rattle.repair.specs.Working.{rowsOf, fieldIn, Buffers, Stepped}
+use Rattle.rows.specs.Reading.{placeAt, found}
+use Rattle.buffers.specs.Writes.{written, placed, declarationWords}
+use Rattle.buffers.proofs.Meaning.{count-rows, appended-words, set-value-words, words-of-buffer, length-rows}
+use Rattle.repair.specs.Working.{rowsOf, Room, At, Stepped}
 
 -- The part of a buffer that counts.
 pub count-part : (t : List ℕ) (k : ℕ) → k ≤ length t → k ≡ length (take k t)
 count-part t k h = sym (length-take-le k t h)
 
--- Links read the first two words of a row.
-module _ (t t′ : List ℕ) (n : ℕ) (same : (j k : ℕ) → j < n → k < 2 → word t j k ≡ word t′ j k) where
-  pub owned-words : (type e j : ℕ) → j < n → owned t type e j ≡ owned t′ type e j
-  unfolding owned
-  owned-words type e j h = rw (same j 0 h (omega arith), same j 1 h (omega arith)) refl
-
-  pub index-words : (first next last : List ℕ) → Index (owned t 13) n first next last → Index (owned t′ 13) n first next last
-  index-words first next last i =
-      record {
-        linked = linked-same (owned t 13) (owned t′ 13) n (owned-words 13) first next (i .linked);
-        ended = ended-same (owned t 13) (owned t′ 13) n (owned-words 13) last (i .ended);
-        owners = i .owners;
-      }
-
-word-part : (t : List ℕ) (rows j k : ℕ) → j < rows → k < 10 → word (take (10 * rows) t) j k ≡ word t j k
-word-part t rows j k h i = getD-take (10 * rows) t (10 * j + k) 0 (omega arith)
-
--- A row appended.
-module _ {t t′ first next last : List ℕ} {rows limit : ℕ} (b : Buffers t first next last rows limit) (room : rows < limit)
-    (l : List ℕ) (ten : length l ≡ 10) (is : t′ ≡ written t (10 * rows) l) where
-  fits : 10 * rows + length l ≤ length t
-  fits = omega (arith, b .tableRoom)
-
-  pub append-part : 10 * (rows + 1) ≤ length t′
-  append-part = rw (is, length-written t (10 * rows) l fits) (omega (arith, b .tableRoom))
-
-  pub append-taken : take (10 * (rows + 1)) t′ ≡ take (10 * rows) t ++ l
-  append-taken =
-      let size : 10 * (rows + 1) ≡ 10 * rows + length l = omega arith in
-      rw (size, is) (appended t (10 * rows) l fits)
-
-  pub append-index : Index (owned (take (10 * (rows + 1)) t′) 13) rows first next last
-  append-index =
-      index-words (take (10 * rows) t) (take (10 * (rows + 1)) t′) rows
-      (λ j k h i.
-      sym (ap (λ (m : List ℕ). getD m (10 * j + k) 0) append-taken
-      ∙ List·getD-append (take (10 * rows) t) l 0 (10 * j + k) (rw (length-take-le (10 * rows) t (omega arith)) (omega arith))))
-      first next last (b .index)
-
-  pub append-buffers : {first′ next′ last′ : List ℕ} → length first′ ≡ length first → length next′ ≡ length next → Index (owned (take (10 * (rows + 1)) t′) 13) (rows + 1) first′ next′ last′ → Buffers t′ first′ next′ last′ (rows + 1) limit
-  append-buffers p q i =
-      record {
-        rowRoom = omega arith;
-        limitSmall = b .limitSmall;
-        tableRoom = rw (is, length-written t (10 * rows) l fits) (b .tableRoom);
-        firstRoom = rw p (b .firstRoom);
-        nextRoom = rw q (b .nextRoom);
-        index = i;
-      }
-
-pub append-rows : (t t′ : List ℕ) (rows : ℕ) → 10 * rows + 10 ≤ length t → (owner : ℕ) (prefix uri : Place) → t′ ≡ written t (10 * rows) (declarationWords owner (prefix .offset .0) (prefix .length) (uri .offset .0) (uri .length)) → (pool : List ℕ) → rowsOf t′ pool (rows + 1) ≡ rowsOf t pool rows ++ newDeclaration owner (fieldIn pool prefix) (fieldIn pool uri) ∷ []
-append-rows t t′ rows h owner prefix uri is pool =
-    rw is (appended-row t pool rows h owner (fieldIn pool prefix) (fieldIn pool uri) refl refl)
-
--- A field of a row set, other than its type and parent.
-module _ {t t′ first next last : List ℕ} {rows limit : ℕ} (b : Buffers t first next last rows limit) (r k v w : ℕ) (below : r < rows)
-    (low : 2 ≤ k) (high : k + 1 < 10) (is : t′ ≡ set (set t (10 * r + k) v) (10 * r + k + 1) w) where
-  set-length : length t′ ≡ length t
-  set-length = ap length is ∙ simp length-set
-
-  set-word : (j i : ℕ) → j < rows → i < 2 → word (take (10 * rows) t) j i ≡ word (take (10 * rows) t′) j i
-  set-word j i h q =
-      word-part t rows j i h (omega arith)
-      ∙ sym
-      (word-part t′ rows j i h (omega arith)
-      ∙ ap (λ (l : List ℕ). getD l (10 * j + i) 0) is
-      ∙ getD-set-other (set t (10 * r + k) v) (10 * r + k + 1) (10 * j + i) w 0 (λ e. omega arith)
-      ∙ getD-set-other t (10 * r + k) (10 * j + i) v 0 (λ e. omega arith))
-
-  pub set-buffers : Buffers t′ first next last rows limit
-  set-buffers =
-      record {
-        rowRoom = b .rowRoom;
-        limitSmall = b .limitSmall;
-        tableRoom = rw set-length (b .tableRoom);
-        firstRoom = b .firstRoom;
-        nextRoom = b .nextRoom;
-        index = index-words (take (10 * rows) t) (take (10 * rows) t′) rows set-word first next last (b .index);
-      }
-
--- The buffers are what a search for declarations asks for.
-module _ {t first next last : List ℕ} {rows limit : ℕ} (b : Buffers t first next last rows limit) where
-  pub rows-fit : 10 * rows ≤ length t
+module _ {t : List ℕ} {rows limit : ℕ} (b : Room t rows limit) where
+  pub rows-fit : WIDTH * rows ≤ length t
   rows-fit = omega (arith, b .rowRoom, b .tableRoom)
 
-  pub rows-part : 10 * rows ≡ length (take (10 * rows) t)
-  rows-part = count-part t (10 * rows) rows-fit
+  pub rows-part : WIDTH * rows ≡ length (take (WIDTH * rows) t)
+  rows-part = count-part t (WIDTH * rows) rows-fit
 
-  pub rows-counted : rowCount (take (10 * rows) t) ≡ rows
-  rows-counted = rw (length-take-le (10 * rows) t rows-fit) (omega arith)
+  pub rows-counted : rowCount (take (WIDTH * rows) t) ≡ rows
+  rows-counted = rw (length-take-le (WIDTH * rows) t rows-fit) (omega arith)
 
-  pub row-within : (r : ℕ) → r < rows → r < rowCount (take (10 * rows) t)
-  row-within r h = rw rows-counted h
+  pub row-within : {r : ℕ} → r < rows → r < rowCount (take (WIDTH * rows) t)
+  row-within below = rw rows-counted below
+
+  pub prefix-room : {r : ℕ} → r < rows → WIDTH * r + PREFIX + 1 < length t
+  prefix-room below = omega (arith, rows-fit)
+
+  pub value-room : {r : ℕ} → r < rowCount (take (WIDTH * rows) t) → WIDTH * r + VALUE + 1 < length t
+  value-room {r} within =
+      let below : r < rows = subst (λ (n : ℕ). r < n) rows-counted within in
+      omega (arith, rows-fit)
 
   pub rows-length : (pool : List ℕ) → length (rowsOf t pool rows) ≡ rows
   rows-length pool = length-rows t pool rows rows-fit
 
-  pub few-rows : (pool : List ℕ) → length (rowsOf t pool rows) ≤ 1024
-  few-rows pool = rw (rows-length pool) (omega (arith, b .rowRoom, b .limitSmall))
+  pub rows-words : (pool : List ℕ) → take (WIDTH * rows) t ≡ words (rowsOf t pool rows)
+  rows-words pool = words-of-buffer t pool rows rows-fit
 
-  pub rows-ready : Ready (take (10 * rows) t) first next
-  rows-ready =
+  -- A step that appends nothing.
+  pub stepped-same : {t′ : List ℕ} {made : List Node} → take (WIDTH * rows) t′ ≡ words made → Stepped t′ rows limit rows made
+  stepped-same e =
       record {
-        linked = subst (λ (n : ℕ). Linked (owned (take (10 * rows) t) 13) n first next) (sym rows-counted) (b .index .linked);
-        places = rw rows-counted (omega (arith, b .rowRoom, b .limitSmall, b .firstRoom));
-        limit = rw rows-counted (omega (arith, b .rowRoom, b .limitSmall));
+        atLeast = omega arith;
+        atMost = omega arith;
+        full = λ more. absurd (omega (arith, b .rowRoom));
+        words = λ fits. e;
       }
 
-  pub rows-element : (pool : List ℕ) (e : ℕ) → e < rows → isElement (node (rowsOf t pool rows) e .type) ≡ true → Element (take (10 * rows) t) e
-  rows-element pool e h is =
+-- The same rows under another name.
+pub stepped-as : {t : List ℕ} {rows limit count : ℕ} {made meant : List Node} → made ≡ meant → Stepped t rows limit count made → Stepped t rows limit count meant
+stepped-as {t} {rows} {limit} {count} e h = subst (Stepped t rows limit count) e h
+
+-- The places of a row's prefix and URI, read from its words.
+module _ (ns : List Node) (r : ℕ) (within : r < length ns) where
+  prefix-of-words : placeAt (words ns) r PREFIX ≡ place (node ns r .prefix)
+  prefix-of-words =
+      ap₂ (λ (o k : ℕ). record { offset = record { 0 = o }; length = k }) (word-words ns r PREFIX within (omega arith)) (word-words ns r (PREFIX + 1) within (omega arith))
+
+  uri-of-words : placeAt (words ns) r URI ≡ place (node ns r .uri)
+  uri-of-words =
+      ap₂ (λ (o k : ℕ). record { offset = record { 0 = o }; length = k }) (word-words ns r URI within (omega arith)) (word-words ns r (URI + 1) within (omega arith))
+
+-- The declaration that row r needs, appended.
+module _ {t : List ℕ} {rows limit : ℕ} (b : Room t rows limit) (ns : List Node) (is : take (WIDTH * rows) t ≡ words ns) (owner r : ℕ) where
+  count : length ns ≡ rows
+  count = count-rows t rows ns is (rows-fit b)
+
+  abbrev declaration : Node
+  declaration = newDeclaration owner (node ns r .prefix) (node ns r .uri)
+
+  pub declared-full : limit ≤ rows → Stepped t rows limit (limit + 1) (ns ++ declaration ∷ [])
+  declared-full room =
       record {
-        within = row-within e h;
-        type = ap isElement (word-part t rows e 0 h (omega arith) ∙ sym (ap (λ (n : Node). n .type) (node-of-buffer t pool rows rows-fit e h))) ∙ is;
+        atLeast = omega (arith, b .rowRoom);
+        atMost = omega (arith, b .rowRoom);
+        full = λ more. rw (length-append, count) (omega arith);
+        words = λ fits. absurd (omega arith);
       }
 
--- The same, with the buffers written out.
-module _ (t pool first next last : List ℕ) (rows limit : ℕ) (b : Buffers t first next last rows limit) where
-  pub counted : rowCount (take (10 * rows) t) ≡ rows
-  counted = rows-counted b
-
-  pub counted-rows : length (rowsOf t pool rows) ≡ rows
-  counted-rows = rows-length b pool
-
-  pub buffers-ready : Ready (take (10 * rows) t) first next
-  buffers-ready = rows-ready b
+  pub declared-made :
+      r < rows → rows < limit → {prefix uri : Place} → prefix ≡ placeAt (take (WIDTH * rows) t) r PREFIX → uri ≡ placeAt (take (WIDTH * rows) t) r URI
+      → {t′ : List ℕ} → t′ ≡ written t (WIDTH * rows) (declarationWords owner prefix uri) → Stepped t′ rows limit (rows + 1) (ns ++ declaration ∷ [])
+  declared-made below room p u made =
+      let within : r < length ns = rw count below in
+      let prefix = p ∙ ap (λ (l : List ℕ). placeAt l r PREFIX) is ∙ prefix-of-words ns r within in
+      let uri = u ∙ ap (λ (l : List ℕ). placeAt l r URI) is ∙ uri-of-words ns r within in
+      record {
+        atLeast = omega arith;
+        atMost = omega arith;
+        full = λ more. absurd (omega arith);
+        words = λ fits.
+            ap (take (WIDTH * (rows + 1))) (made ∙ ap (written t (WIDTH * rows)) (ap₂ (declarationWords owner) prefix uri))
+            ∙ appended-words t rows ns is (omega (arith, b .tableRoom)) declaration;
+      }
 
 -- The own declaration that a search found, or did not.
 module _ (ns : List Node) (e d : ℕ) (prefix : List ℕ) (sought : found ns d ≡ firstThat (declares prefix) (ownDeclarations ns e)) where
@@ -176,59 +134,54 @@ module _ (ns : List Node) (e d : ℕ) (prefix : List ℕ) (sought : found ns d �
         (λ q. q)
         (λ q. absurd (Option·none-ne-some (node ns d) (sym (firstThat-none (declares prefix) (ownDeclarations ns e) q) ∙ hit)))
 
-    pub declare-hit : (f uri : Field) → f .bytes ≡ prefix → Unique ns → declare e f uri ns ≡ set ns d (withValue uri (node ns d))
+    declare-hit : (f uri : Field) → f .bytes ≡ prefix → Unique ns → declare e f uri ns ≡ set ns d (withValue uri (node ns d))
     unfolding declare
     declare-hit f uri same unique = rw (same, any-hit) (revalued-is-set e prefix uri ns d unique within own-hit)
 
-  pub declare-missed : length ns ≤ d → (f uri : Field) → f .bytes ≡ prefix → declare e f uri ns ≡ ns ++ newDeclaration e f uri ∷ []
+  declare-missed : length ns ≤ d → (f uri : Field) → f .bytes ≡ prefix → declare e f uri ns ≡ ns ++ newDeclaration e f uri ∷ []
   unfolding declare ownDeclarations found
   declare-missed past f uri same =
       let none-there : firstThat (declares prefix) (ownDeclarations ns e) ≡ none = sym sought ∙ rw (le-ltb d (length ns) past) refl in
       let none-own : anyOf (isOwnDeclaration e prefix) ns ≡ false = anyOf-filtered (declares prefix) (isDeclarationOf e) ns ∙ none-firstThat (declares prefix) (ownDeclarations ns e) none-there in
       rw (same, none-own) refl
 
--- d is what a search for the own declaration of a prefix answers.
-pub record Sought (t pool first next last : List ℕ) (rows limit e d : ℕ) (prefix : Place) : Type 0 where
-  pub buffers : Buffers t first next last rows limit
-  pub sought : found (rowsOf t pool rows) d ≡ firstThat (declares (fieldIn pool prefix .bytes)) (ownDeclarations (rowsOf t pool rows) e)
+pub element-below : {t pool first next path : List ℕ} {rows limit e : ℕ} → At t pool first next path rows limit e → e < rows
+element-below {e = e} a = subst (λ (n : ℕ). e < n) (rows-counted (a .room)) (a .element .within)
 
--- The three ways of `declare`.
-module _ {t pool first next last : List ℕ} {rows limit e d : ℕ} {prefix : Place} (g : Sought t pool first next last rows limit e d prefix) (uri : Place) where
-  pub declared-set : {t′ : List ℕ} → d < rows → Unique (rowsOf t pool rows) → t′ ≡ set (set t (10 * d + 8) (uri .offset .0)) (10 * d + 8 + 1) (uri .length) → Stepped t′ pool first next last limit rows (declare e (fieldIn pool prefix) (fieldIn pool uri) (rowsOf t pool rows))
-  declared-set below unique is =
-      let b = g .buffers in
-      record {
-        full = λ more. absurd (omega (arith, b .rowRoom));
-        buffers = λ fits. set-buffers b d 8 _ _ below (omega arith) (omega arith) is;
-        rows = λ fits.
-            ap (λ (l : List ℕ). rowsOf l pool rows) is
-            ∙ set-value-rows t pool rows (rows-fit b) d below (fieldIn pool uri) refl
-            ∙ sym (declare-hit (rowsOf t pool rows) e d _ (g .sought) (rw (rows-length b pool) below) (fieldIn pool prefix) (fieldIn pool uri) refl unique);
-      }
+-- Steps 1 and 2 of element e.
+module _ {t pool first next path : List ℕ} {rows limit e : ℕ} (a : At t pool first next path rows limit e) (plain : Plain (node (rowsOf t pool rows) e)) where
+  abbrev ns : List Node
+  ns = rowsOf t pool rows
 
-  missed : rows ≤ d → declare e (fieldIn pool prefix) (fieldIn pool uri) (rowsOf t pool rows) ≡ rowsOf t pool rows ++ newDeclaration e (fieldIn pool prefix) (fieldIn pool uri) ∷ []
-  missed past = declare-missed (rowsOf t pool rows) e d _ (g .sought) (rw (rows-length (g .buffers) pool) past) (fieldIn pool prefix) (fieldIn pool uri) refl
+  pub element-settled : elementMeans ns e ≡ true → Stepped t rows limit rows (repairElement e ns)
+  element-settled means =
+      stepped-same (a .room)
+      (rows-words (a .room) pool
+      ∙ ap words (sym (element-by-meaning ns e plain ∙ ap (λ m. cond m ns (declare e (node ns e .prefix) (node ns e .uri) ns)) means)))
 
-  pub declared-full : rows ≤ d → limit ≤ rows → Stepped t pool first next last limit (limit + 1) (declare e (fieldIn pool prefix) (fieldIn pool uri) (rowsOf t pool rows))
-  declared-full past room =
-      record {
-        full = λ more. rw (missed past, length-append, rows-length (g .buffers) pool) (omega arith);
-        buffers = λ fits. absurd (omega arith);
-        rows = λ fits. absurd (omega arith);
-      }
+  module _ (other : elementMeans ns e ≡ false) {prefix : List ℕ} (read : prefix ≡ fieldAt (take (WIDTH * rows) t) pool e PREFIX .bytes)
+      (d : ℕ) (sought : found ns d ≡ firstThat (declares prefix) (ownDeclarations ns e)) where
+    repaired : repairElement e ns ≡ declare e (node ns e .prefix) (node ns e .uri) ns
+    repaired = element-by-meaning ns e plain ∙ ap (λ m. cond m ns (declare e (node ns e .prefix) (node ns e .uri) ns)) other
 
-  pub declared-appended : {t′ first′ next′ last′ : List ℕ} → rows ≤ d → rows < limit → Buffers t′ first′ next′ last′ (rows + 1) limit → rowsOf t′ pool (rows + 1) ≡ rowsOf t pool rows ++ newDeclaration e (fieldIn pool prefix) (fieldIn pool uri) ∷ [] → Stepped t′ pool first′ next′ last′ limit (rows + 1) (declare e (fieldIn pool prefix) (fieldIn pool uri) (rowsOf t pool rows))
-  declared-appended past room b′ made =
-      record {
-        full = λ more. absurd (omega arith);
-        buffers = λ fits. b′;
-        rows = λ fits. made ∙ sym (missed past);
-      }
+    same-prefix : node ns e .prefix .bytes ≡ prefix
+    same-prefix = ap (λ (n : Node). n .prefix .bytes) (node-nodes (take (WIDTH * rows) t) pool e (a .element .within)) ∙ sym read
 
--- Nothing to do, and the same rows under another name.
-pub stepped-same : {t first next last : List ℕ} {rows limit : ℕ} → Buffers t first next last rows limit → (pool : List ℕ) {made : List Node} → rowsOf t pool rows ≡ made → Stepped t pool first next last limit rows made
-stepped-same b pool e =
-    record { full = λ more. absurd (omega (arith, b .rowRoom)); buffers = λ fits. b; rows = λ fits. e }
+    pub element-set :
+        Unique ns → d < rowCount (take (WIDTH * rows) t) → {uri : Place} → uri ≡ placeAt (take (WIDTH * rows) t) e URI
+        → {t′ : List ℕ} → t′ ≡ placed t d VALUE uri → Stepped t′ rows limit rows (repairElement e ns)
+    element-set unique below u made =
+        let under : d < rows = subst (λ (n : ℕ). d < n) (rows-counted (a .room)) below in
+        let within : d < length ns = rw (rows-length (a .room) pool) under in
+        let uri = u ∙ sym (ap (λ (n : Node). place (n .uri)) (node-nodes (take (WIDTH * rows) t) pool e (a .element .within))) in
+        stepped-same (a .room)
+        (ap (take (WIDTH * rows)) (made ∙ ap (placed t d VALUE) uri)
+        ∙ set-value-words t rows ns (rows-words (a .room) pool) (rows-fit (a .room)) d under (node ns e .uri)
+        ∙ ap words (sym (repaired ∙ declare-hit ns e d prefix sought within (node ns e .prefix) (node ns e .uri) same-prefix unique)))
 
-pub stepped-as : {t pool first next last : List ℕ} {limit count : ℕ} {made meant : List Node} → made ≡ meant → Stepped t pool first next last limit count made → Stepped t pool first next last limit count meant
-stepped-as {t} {pool} {first} {next} {last} {limit} {count} e h = subst (Stepped t pool first next last limit count) e h
+    pub element-declared :
+        rowCount (take (WIDTH * rows) t) ≤ d → {t′ : List ℕ} {count : ℕ}
+        → Stepped t′ rows limit count (ns ++ newDeclaration e (node ns e .prefix) (node ns e .uri) ∷ []) → Stepped t′ rows limit count (repairElement e ns)
+    element-declared past step =
+        let beyond : length ns ≤ d = rw (rows-length (a .room) pool) (subst (λ (n : ℕ). n ≤ d) (rows-counted (a .room)) past) in
+        stepped-as (sym (repaired ∙ declare-missed ns e d prefix sought beyond (node ns e .prefix) (node ns e .uri) same-prefix)) step

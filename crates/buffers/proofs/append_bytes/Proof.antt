@@ -11,13 +11,18 @@ use Rattle.buffers.proofs.append_bytes.Statement.{statement}
 use Rattle.buffers.proofs.append_bytes.Tie as tie
 
 abbrev Inv-loop : tie.InvT-loop
-Inv-loop pool₀ at bytes i₀ pool i = (i ≤ length bytes) × (length pool ≡ length pool₀) × (pool ≡ paste pool₀ at bytes i)
+Inv-loop pool₀ bytes start i₀ pool i = (i ≤ length bytes) × (length pool ≡ length pool₀) × (pool ≡ paste pool₀ start bytes i)
 
 abbrev μ-loop : tie.MeasureT-loop
-μ-loop pool₀ at bytes i₀ pool i = length bytes - i
+μ-loop pool₀ bytes start i₀ pool i = length bytes - i
+
+cast-start : tie.Need-cast-start Inv-loop μ-loop
+cast-start c = omega arith
 
 loop-holds : tie.Need-loop-holds Inv-loop μ-loop
-loop-holds c = (omega arith, refl, paste-zero (now (c .args .pool)) (c .args .at) (now (c .args .bytes)))
+loop-holds c =
+    let s = c .before in
+    (omega arith, refl, paste-zero (now (s .args .pool)) (s .args .at .0) (now (s .args .bytes)))
 
 shared-slice-read-pool : tie.Need-shared-slice-read-pool Inv-loop μ-loop
 shared-slice-read-pool c = omega arith
@@ -37,8 +42,8 @@ loop-less c = omega arith
 loop-again : tie.Need-loop-again Inv-loop μ-loop
 loop-again c =
     let at-loop = c .before .before in
-    let s = at-loop .before in
-    (omega arith, simp length-set (at-loop .loop .inv .1), write-step (now (s .args .pool)) (at-loop .loop .pool) (s .args .at) (now (s .args .bytes)) (at-loop .loop .i) (at-loop .loop .inv .2) (s .pre) (c .before .loop-test .taken))
+    let s = at-loop .before .before in
+    (omega arith, simp length-set (at-loop .loop .inv .1), write-step (now (s .args .pool)) (at-loop .loop .pool) (s .args .at .0) (now (s .args .bytes)) (at-loop .loop .i) (at-loop .loop .inv .2) (omega arith) (c .before .loop-test .taken))
 
 same-length : tie.Need-same-length Inv-loop μ-loop
 same-length c = c .before .loop .inv .1
@@ -46,8 +51,8 @@ same-length c = c .before .loop .inv .1
 returns : tie.Need-returns Inv-loop μ-loop
 returns c =
     let at-loop = c .before in
-    let s = at-loop .before in
-    write-end (now (s .args .pool)) (at-loop .loop .pool) (s .args .at) (now (s .args .bytes)) (at-loop .loop .i) (at-loop .loop .inv .2) (at-loop .loop .inv .0) (c .loop-test .left)
+    let s = at-loop .before .before in
+    write-end (now (s .args .pool)) (at-loop .loop .pool) (s .args .at .0) (now (s .args .bytes)) (at-loop .loop .i) (at-loop .loop .inv .2) (at-loop .loop .inv .0) (c .loop-test .left)
 
 pub append-bytes-spec : {M : Type 1} → statement M
 append-bytes-spec =
@@ -55,6 +60,7 @@ append-bytes-spec =
     (tie.spec
     Inv-loop
     μ-loop
+    cast-start
     loop-holds
     shared-slice-read-pool
     add-pool

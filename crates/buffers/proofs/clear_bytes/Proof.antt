@@ -10,16 +10,16 @@ use Rattle.buffers.proofs.clear_bytes.Statement.{statement}
 use Rattle.buffers.proofs.clear_bytes.Tie as tie
 
 abbrev Inv-loop : tie.InvT-loop
-Inv-loop b₀ from i₀ b i = (length b ≡ length b₀) × (cleared b i ≡ cleared b₀ from)
+Inv-loop pool₀ bytes i₀ pool i = (length pool ≡ length pool₀) × (cleared pool i ≡ cleared pool₀ bytes)
 
 abbrev μ-loop : tie.MeasureT-loop
-μ-loop b₀ from i₀ b i = length b - i
+μ-loop pool₀ bytes i₀ pool i = length pool - i
 
 loop-holds : tie.Need-loop-holds Inv-loop μ-loop
 loop-holds c = (refl, refl)
 
-slice-write-b : tie.Need-slice-write-b Inv-loop μ-loop
-slice-write-b c = omega arith
+slice-write-pool : tie.Need-slice-write-pool Inv-loop μ-loop
+slice-write-pool c = omega arith
 
 add-i : tie.Need-add-i Inv-loop μ-loop
 add-i c = omega arith
@@ -30,13 +30,13 @@ loop-less c = simp length-set (omega arith)
 loop-again : tie.Need-loop-again Inv-loop μ-loop
 loop-again c =
     let at-loop = c .before in
-    (simp length-set (at-loop .loop .inv .0), clear-step (at-loop .loop .b) (at-loop .loop .i) (c .loop-test .taken) ∙ at-loop .loop .inv .1)
+    (simp length-set (at-loop .loop .inv .0), clear-step (at-loop .loop .pool) (at-loop .loop .i) (c .loop-test .taken) ∙ at-loop .loop .inv .1)
 
 same-length : tie.Need-same-length Inv-loop μ-loop
 same-length c = c .before .loop .inv .0
 
 returns : tie.Need-returns Inv-loop μ-loop
-returns c = sym (clear-end (c .before .loop .b) (c .before .loop .i) (c .loop-test .left)) ∙ c .before .loop .inv .1
+returns c = sym (clear-end (c .before .loop .pool) (c .before .loop .i) (c .loop-test .left)) ∙ c .before .loop .inv .1
 
 pub clear-bytes-spec : {M : Type 1} → statement M
 clear-bytes-spec =
@@ -45,7 +45,7 @@ clear-bytes-spec =
     Inv-loop
     μ-loop
     loop-holds
-    slice-write-b
+    slice-write-pool
     add-i
     loop-less
     loop-again

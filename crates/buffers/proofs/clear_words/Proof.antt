@@ -1,28 +1,32 @@
 -- `buffers::clear_words` meets its contract. The invariant: clearing what is left gives the result.
 -- Assumes nothing.
-use Prim.Native.Nat.{_-_}
+use Prim.Native.Nat.{_-_, _*_}
 use mathlib.Core.Path.{_≡_, refl, sym, _∙_}
 use native.Mathlib.Omega.{arith}
 use lib.ListN.{length, length-set}
+use Rattle.rules.specs.Table.{WIDTH}
 use Rattle.buffers.specs.Writes.{cleared}
 use Rattle.buffers.proofs.Writes.{clear-step, clear-end}
 use Rattle.buffers.proofs.clear_words.Statement.{statement}
 use Rattle.buffers.proofs.clear_words.Tie as tie
 
 abbrev Inv-loop : tie.InvT-loop
-Inv-loop t₀ from i₀ t i = (length t ≡ length t₀) × (cleared t i ≡ cleared t₀ from)
+Inv-loop table₀ rows i₀ table i = (length table ≡ length table₀) × (cleared table i ≡ cleared table₀ (WIDTH * rows))
 
 abbrev μ-loop : tie.MeasureT-loop
-μ-loop t₀ from i₀ t i = length t - i
+μ-loop table₀ rows i₀ table i = length table - i
+
+mul-i : tie.Need-mul-i Inv-loop μ-loop
+mul-i c = omega arith
 
 loop-holds : tie.Need-loop-holds Inv-loop μ-loop
 loop-holds c = (refl, refl)
 
-mul-t : tie.Need-mul-t Inv-loop μ-loop
-mul-t c = omega arith
+mul-table : tie.Need-mul-table Inv-loop μ-loop
+mul-table c = omega arith
 
-slice-write-t : tie.Need-slice-write-t Inv-loop μ-loop
-slice-write-t c = omega arith
+slice-write-table : tie.Need-slice-write-table Inv-loop μ-loop
+slice-write-table c = omega arith
 
 add-i : tie.Need-add-i Inv-loop μ-loop
 add-i c = omega arith
@@ -33,13 +37,13 @@ loop-less c = simp length-set (omega arith)
 loop-again : tie.Need-loop-again Inv-loop μ-loop
 loop-again c =
     let at-loop = c .before in
-    (simp length-set (at-loop .loop .inv .0), clear-step (at-loop .loop .t) (at-loop .loop .i) (c .loop-test .taken) ∙ at-loop .loop .inv .1)
+    (simp length-set (at-loop .loop .inv .0), clear-step (at-loop .loop .table) (at-loop .loop .i) (c .loop-test .taken) ∙ at-loop .loop .inv .1)
 
 same-length : tie.Need-same-length Inv-loop μ-loop
 same-length c = c .before .loop .inv .0
 
 returns : tie.Need-returns Inv-loop μ-loop
-returns c = sym (clear-end (c .before .loop .t) (c .before .loop .i) (c .loop-test .left)) ∙ c .before .loop .inv .1
+returns c = sym (clear-end (c .before .loop .table) (c .before .loop .i) (c .loop-test .left)) ∙ c .before .loop .inv .1
 
 pub clear-words-spec : {M : Type 1} → statement M
 clear-words-spec =
@@ -47,9 +51,10 @@ clear-words-spec =
     (tie.spec
     Inv-loop
     μ-loop
+    mul-i
     loop-holds
-    mul-t
-    slice-write-t
+    mul-table
+    slice-write-table
     add-i
     loop-less
     loop-again

@@ -16,7 +16,7 @@ same-length c = search needs
 returns : tie.Need-returns
 returns c =
     let s = c .before .before .before .before .before .before in
-    c .before .before .append-bytes .ensures ∙ written-from-start (now (s .args .b)) (now (s .args .source))
+    c .before .before .append-bytes .ensures ∙ written-from-start (now (s .args .pool)) (now (s .args .source))
 
 pub copy-bytes-spec : {M : Type 1} → statement M
 copy-bytes-spec = tie.close (tie.spec append-bytes-requires same-length returns)

@@ -7,8 +7,8 @@ use borrow.Author.Needs.{needs}
 use Rattle.buffers.proofs.copy_words.Statement.{statement}
 use Rattle.buffers.proofs.copy_words.Tie as tie
 
-write-words-requires : tie.Need-write-words-requires
-write-words-requires c κs = search needs
+write-rows-requires : tie.Need-write-rows-requires
+write-rows-requires c κs = search needs
 
 same-length : tie.Need-same-length
 same-length c = search needs
@@ -16,7 +16,7 @@ same-length c = search needs
 returns : tie.Need-returns
 returns c =
     let s = c .before .before .before .before .before .before in
-    c .before .before .write-words .ensures ∙ written-from-start (now (s .args .t)) (now (s .args .source))
+    c .before .before .write-rows .ensures ∙ written-from-start (now (s .args .table)) (now (s .args .source))
 
 pub copy-words-spec : {M : Type 1} → statement M
-copy-words-spec = tie.close (tie.spec write-words-requires same-length returns)
+copy-words-spec = tie.close (tie.spec write-rows-requires same-length returns)

@@ -1,23 +1,25 @@
 -- `normalizer::normalize` meets its contract.
 -- Assumes nothing.
 use mathlib.Core.Path.{sym, _∙_}
-use lib.ListN.{length}
 use borrow.Author.Needs.{needs}
-use Rattle.normalizer.proofs.Whole.{check-refuses}
+use Rattle.rules.proofs.Refusals.{verdict-accepted}
+use Rattle.normalizer.proofs.Input.{input-refused}
 use Rattle.normalizer.proofs.normalize.Statement.{statement}
 use Rattle.normalizer.proofs.normalize.Tie as tie
 
-check-requires : tie.Need-check-requires
-check-requires c κs = search needs
+judge-requires : tie.Need-judge-requires
+judge-requires c κs = search needs
 
 enum-told : tie.Need-enum-told
 enum-told c = search needs
 
 normalize-accepted-requires : tie.Need-normalize-accepted-requires
-normalize-accepted-requires c κs = sym (c .before .before .before .before .check .ensures) ∙ c .before .before .enum-told .given .1
+normalize-accepted-requires c κs =
+    let t = c .before .before in
+    verdict-accepted _ (sym (t .before .before .judge .ensures) ∙ t .enum-told .given .1)
 
-enum-known-answer : tie.Need-enum-known-answer
-enum-known-answer c = search needs
+enum-known-why : tie.Need-enum-known-why
+enum-known-why c = search needs
 
 refuse-requires : tie.Need-refuse-requires
 refuse-requires c κs = search needs
@@ -39,20 +41,18 @@ same-length-4 c = search needs
 
 returns-2 : tie.Need-returns-2
 returns-2 c =
-    let k = c .before .before .before .before .before .before .before .before in
-    let checked = k .before .before in
-    let s = checked .before .before .before .before .before in
-    check-refuses (s .args .table .now) (s .args .pool .now) (length (s .args .out-table .now)) (length (s .args .out-pool .now))
-    (sym (checked .check .ensures) ∙ k .answer .given .1) (c .before .before .before .before .refuse .ensures)
+    let r = c .before .before .before .before in
+    let k = r .before .before .before .before in
+    input-refused _ _ _ _ _ (sym (k .before .before .judge .ensures) ∙ k .why .given .1) (r .refuse .ensures)
 
 pub normalize-spec : {M : Type 1} → statement M
 normalize-spec =
     tie.close
     (tie.spec
-    check-requires
+    judge-requires
     enum-told
     normalize-accepted-requires
-    enum-known-answer
+    enum-known-why
     refuse-requires
     same-length
     same-length-2

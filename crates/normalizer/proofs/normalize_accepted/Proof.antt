@@ -1,28 +1,27 @@
 -- `normalizer::normalize_accepted` meets its contract.
 -- Assumes nothing.
-use Prim.Native.Nat.{ℕ}
-use mathlib.Core.List.{List}
-use native.Mathlib.Omega.{arith}
 use lib.ListN.{length}
 use borrow.Author.Needs.{needs}
-use Rattle.normalizer.proofs.Whole.{accepted-few, level1-found, level1-none, level1-refuses}
+use Rattle.normalizer.proofs.Outcome.{outcome-ended}
 use Rattle.normalizer.proofs.normalize_accepted.Statement.{statement}
 use Rattle.normalizer.proofs.normalize_accepted.Tie as tie
 
-abbrev table : tie.Start → List ℕ
-table s = s .args .table .now
+row-limit-requires : tie.Need-row-limit-requires
+row-limit-requires c κs = search needs
 
-abbrev pool : tie.Start → List ℕ
-pool s = s .args .pool .now
+slice-aggregate-normalize-into : tie.Need-slice-aggregate-normalize-into
+slice-aggregate-normalize-into c = search needs
 
-level1-row-requires : tie.Need-level1-row-requires
-level1-row-requires c κs = let s = c .before .before .before .before in accepted-few (table s) (pool s) (s .pre)
+normalize-into-requires : tie.Need-normalize-into-requires
+normalize-into-requires c κs = search needs
 
-wide-requires : tie.Need-wide-requires
-wide-requires c κs = search needs
+slice-aggregate-finish : tie.Need-slice-aggregate-finish
+slice-aggregate-finish c = search needs
 
-refuse-requires : tie.Need-refuse-requires
-refuse-requires c κs = search needs
+finish-requires : tie.Need-finish-requires
+finish-requires c κs =
+    let made = c .before .before .before .before .before .before .normalize-into .ensures in
+    λ fits. (made .tableRoom fits, made .poolRoom fits)
 
 same-length : tie.Need-same-length
 same-length c = search needs
@@ -32,41 +31,22 @@ same-length-2 c = search needs
 
 returns : tie.Need-returns
 returns c =
-    let b = c .before .before .before .before .before .before .before in
-    let f = b .before .before in
-    let s = f .before .before .before .before .before in
-    let row = f .level1-row in
-    let there = level1-found (table s) (pool s) (accepted-few (table s) (pool s) (s .pre)) (row .result .0) (row .ensures (pool s)) (omega (arith, b .if1 .taken, b .before .wide .ensures)) in
-    level1-refuses (table s) (pool s) (length (s .args .out-table .now)) (length (s .args .out-pool .now)) (row .result .0) (s .pre) there (c .before .before .before .before .refuse .ensures)
-
-normalize-level2-requires : tie.Need-normalize-level2-requires
-normalize-level2-requires c κs =
-    let b = c .before .before in
-    let f = b .before .before in
-    let s = f .before .before .before .before .before in
-    let row = f .level1-row in
-    (s .pre, level1-none (table s) (pool s) (accepted-few (table s) (pool s) (s .pre)) (row .result .0) (row .ensures (pool s)) (omega (arith, b .if1 .left, b .before .wide .ensures)))
-
-same-length-3 : tie.Need-same-length-3
-same-length-3 c = search needs
-
-same-length-4 : tie.Need-same-length-4
-same-length-4 c = search needs
-
-returns-2 : tie.Need-returns-2
-returns-2 c = search needs
+    let f = c .before .before .before .before in
+    let m = f .before .before .before .before .before .before .before in
+    let l = m .before .before .before in
+    let s = l .before .before .before .before .before in
+    outcome-ended (s .args .table .now) (s .args .pool .now) (s .pre) (l .row-limit .ensures) (length (s .args .out-pool .now))
+    (m .normalize-into .ensures) (m .normalize-into .kept .1 .1 .0) (f .finish .ensures)
 
 pub normalize-accepted-spec : {M : Type 1} → statement M
 normalize-accepted-spec =
     tie.close
     (tie.spec
-    level1-row-requires
-    wide-requires
-    refuse-requires
+    row-limit-requires
+    slice-aggregate-normalize-into
+    normalize-into-requires
+    slice-aggregate-finish
+    finish-requires
     same-length
     same-length-2
-    returns
-    normalize-level2-requires
-    same-length-3
-    same-length-4
-    returns-2)
+    returns)

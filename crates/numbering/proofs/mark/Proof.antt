@@ -6,8 +6,8 @@ use borrow.Author.Needs.{needs}
 use Rattle.numbering.proofs.mark.Statement.{statement}
 use Rattle.numbering.proofs.mark.Tie as tie
 
-field-within-requires : tie.Need-field-within-requires
-field-within-requires c κs = search needs
+field-requires : tie.Need-field-requires
+field-requires c κs = search needs
 
 numbered-requires : tie.Need-numbered-requires
 numbered-requires c κs = search needs
@@ -22,22 +22,16 @@ same-length : tie.Need-same-length
 same-length c = search needs
 
 returns : tie.Need-returns
-returns c =
-    let s = c .before .before .before .before .before .before .before in
-    let j = c .before .wide in
-    marking-one (s .args .marks .now) (s .pre .1) (s .args .table .now) (s .args .pool .now) (s .args .row .0) (j .result) (cc) (omega arith)
+returns c = let s = c .before .before .before .before .before .before .before in marking-one _ (s .pre .1) (s .args .table .now) (s .args .pool .now) (s .args .declaration .0) (c .before .wide .result) (cc) (omega arith)
 
 returns-2 : tie.Need-returns-2
-returns-2 c =
-    let s = c .before .before .before .before .before .before .before in
-    let j = c .before .wide in
-    marking-none (s .args .marks .now) (s .pre .1) (s .args .table .now) (s .args .pool .now) (s .args .row .0) (j .result) (cc) (omega arith)
+returns-2 c = let s = c .before .before .before .before .before .before .before in marking-none _ (s .pre .1) (s .args .table .now) (s .args .pool .now) (s .args .declaration .0) (c .before .wide .result) (cc) (omega arith)
 
 pub mark-spec : {M : Type 1} → statement M
 mark-spec =
     tie.close
     (tie.spec
-    field-within-requires
+    field-requires
     numbered-requires
     wide-requires
     slice-write-marks
