@@ -1,89 +1,85 @@
-// The lookups. A line gives a table, written out, its pool, a prefix and a URI, and then the rows that are asked: each its
-// number and what it is.
-use crate::lookup_report::in_scope;
-use crate::lookup_report::located;
+// The lookups. A line gives a prefix and a URI, and after the pool the rows that are asked: each its number and what it
+// is. The lookups of a URI are asked for the prefix, the others for the URI.
+use crate::lookup_report::found;
 use crate::lookup_report::tested;
-use crate::parts;
-use crate::parts::head;
-use crate::parts::tail;
+use crate::parts::part;
+use crate::parts::piece;
+use crate::texts;
+use crate::texts::quote;
 use crate::words;
 use rules::Row;
 
-// The five lookups from each row: the two of a URI are asked for the prefix, the others for the URI.
-pub fn case(line: &[u8]) {
-    let mut space: [u32; 256] = [0; 256];
-    let count = words::read(head(line), &mut space);
-    let asked = tail(line);
-    let queries = tail(asked);
-    let uri = tail(queries);
-    each_row(
-        &space[..count],
-        head(asked),
-        head(queries),
-        head(uri),
-        tail(uri),
-    );
+// The part of a line that is the first row to ask.
+const FIRST_ROW: usize = 5;
+
+// The five lookups from each row.
+pub fn case(line: &[u8], table: &[u32], pool: &[u8]) {
+    each_row(line, table, pool, part(line, 1), part(line, 2));
 }
 
-fn each_row(table: &[u32], pool: &[u8], prefix: &[u8], uri: &[u8], rows: &[u8]) {
-    let mut from: usize = 0;
-    while from < rows.len() {
-        let end = parts::end(rows, from, b'|');
-        answers(table, pool, prefix, uri, &rows[from..end]);
-        from = end + 1;
-    }
-}
-
-// A row's number and name, and the answers of the lookups that see elements' own names.
-fn answers(table: &[u32], pool: &[u8], prefix: &[u8], uri: &[u8], name: &[u8]) {
-    let row = numbered(name);
+// The parts of the pool that the first two lookups find from a row.
+pub fn part_case(line: &[u8], table: &[u32], pool: &[u8]) {
+    let name = part(line, FIRST_ROW);
     io::write_all(1, name);
-    io::write_all(1, b": URI ");
-    located(lookup::lookup_uri(table, pool, row, prefix));
-    io::write_all(1, b", prefix ");
-    located(lookup::lookup_prefix(table, pool, row, uri));
-    io::write_all(1, b", default ");
-    tested(lookup::test_default(table, pool, row, uri));
-    in_scope_answers(table, pool, row, prefix, uri);
+    part_lookups(table, pool, numbered(name), part(line, 1), part(line, 2));
 }
 
-fn in_scope_answers(table: &[u32], pool: &[u8], row: Row, prefix: &[u8], uri: &[u8]) {
-    io::write_all(1, b", in scope: URI ");
-    in_scope(lookup::lookup_in_scope_uri(table, pool, row, prefix));
-    io::write_all(1, b", prefix ");
-    in_scope(lookup::lookup_in_scope_prefix(table, pool, row, uri));
-    io::write_all(1, b"\n");
+fn each_row(line: &[u8], table: &[u32], pool: &[u8], prefix: &[u8], uri: &[u8]) {
+    let mut number: usize = FIRST_ROW;
+    while number < line.len() {
+        let name = part(line, number);
+        if name.len() == 0 {
+            return;
+        }
+        io::write_all(1, name);
+        lookups(table, pool, numbered(name), prefix, uri);
+        number += 1;
+    }
 }
 
 // The row whose number a name starts with.
 fn numbered(name: &[u8]) -> Row {
-    let mut first: [u32; 1] = [0; 1];
-    words::read(name, &mut first);
-    Row(first[0])
+    Row(words::number(piece(name, 0, b' ')))
 }
 
-// The parts of the pool that the first two lookups find from a row: of a table and a pool, and of the rest of the line.
-pub fn part_case(line: &[u8]) {
-    let mut space: [u32; 256] = [0; 256];
-    let count = words::read(head(line), &mut space);
-    let asked = tail(line);
-    let queries = tail(asked);
-    let uri = tail(queries);
-    found_parts(
-        &space[..count],
-        head(asked),
-        head(queries),
-        head(uri),
-        tail(uri),
+fn lookups(table: &[u32], pool: &[u8], row: Row, prefix: &[u8], uri: &[u8]) {
+    uri_of_prefix(table, pool, row, prefix);
+    prefix_of_uri(table, pool, row, uri);
+    is_default(table, pool, row, uri);
+    in_scope_uri(table, pool, row, prefix);
+    in_scope_prefix(table, pool, row, uri);
+    texts::write(texts::LINE);
+}
+
+fn uri_of_prefix(table: &[u32], pool: &[u8], row: Row, prefix: &[u8]) {
+    let given = answers::located(lookups::uri_of_prefix(table, pool, row, prefix));
+    found(texts::URI, given, texts::NOTHING);
+}
+
+fn prefix_of_uri(table: &[u32], pool: &[u8], row: Row, uri: &[u8]) {
+    let given = answers::located(lookups::prefix_of_uri(table, pool, row, uri));
+    found(texts::PREFIX, given, texts::NOTHING);
+}
+
+fn is_default(table: &[u32], pool: &[u8], row: Row, uri: &[u8]) {
+    tested(answers::tested(lookups::is_default(table, pool, row, uri)));
+}
+
+fn in_scope_uri(table: &[u32], pool: &[u8], row: Row, prefix: &[u8]) {
+    let given = answers::in_scope(lookups::in_scope_uri(table, pool, row, prefix));
+    found(texts::IN_SCOPE_URI, given, texts::NONE);
+}
+
+fn in_scope_prefix(table: &[u32], pool: &[u8], row: Row, uri: &[u8]) {
+    let given = answers::in_scope(lookups::in_scope_prefix(table, pool, row, uri));
+    found(texts::PREFIX, given, texts::NONE);
+}
+
+fn part_lookups(table: &[u32], pool: &[u8], row: Row, prefix: &[u8], uri: &[u8]) {
+    quote(texts::URI_PART, lookups::uri_part(table, pool, row, prefix));
+    quote(
+        texts::PREFIX_PART,
+        lookups::prefix_part(table, pool, row, uri),
     );
-}
-
-fn found_parts(table: &[u32], pool: &[u8], prefix: &[u8], uri: &[u8], name: &[u8]) {
-    let row = numbered(name);
-    io::write_all(1, name);
-    io::write_all(1, b": URI <");
-    io::write_all(1, lookup::uri_part(table, pool, row, prefix));
-    io::write_all(1, b">, prefix <");
-    io::write_all(1, lookup::prefix_part(table, pool, row, uri));
-    io::write_all(1, b">\n");
+    texts::write(texts::PART_END);
 }

@@ -1,63 +1,59 @@
 // What the lookups answer, as text.
-use rules::InScope;
-use rules::Located;
+use crate::texts;
+use crate::texts::say;
+use answers::Found;
+use answers::Number;
+use answers::Test;
 use rules::Place;
-use rules::Refusal;
-use rules::Tested;
 
-fn refused(refusal: Refusal) {
-    let given = answers::number_of(refusal);
-    io::write_all(1, b"refusal ");
-    io::print_decimal(1, given.number as u64);
-    io::write_all(1, b" row ");
-    let row = given.row;
-    io::print_decimal(1, row.0 as u64);
+// A refusal, a place, a built-in, or nothing, after a text.
+pub fn found(text: usize, given: Found, nothing: usize) {
+    texts::write(text);
+    let number = given.number;
+    if refused(number) {
+        return;
+    }
+    let place = given.place;
+    if placed(place) {
+        return;
+    }
+    built_in(given.built_in, nothing);
 }
 
-fn place(at: Place) {
-    let offset = at.offset;
+// Whether a URI is the default, or a refusal.
+pub fn tested(given: Test) {
+    texts::write(texts::DEFAULT);
+    let number = given.number;
+    if refused(number) {
+        return;
+    }
+    texts::either(given.yes, texts::YES, texts::NO);
+}
+
+// Prints a refusal, if it is one.
+fn refused(given: Number) -> bool {
+    if given.number == 0 {
+        return false;
+    }
+    texts::refusal(texts::REFUSED, texts::REFUSED_ROW, given);
+    true
+}
+
+// Prints a place, if something stands there.
+fn placed(place: Place) -> bool {
+    if place.length == 0 {
+        return false;
+    }
+    let offset = place.offset;
     io::print_decimal(1, offset.0 as u64);
-    io::write_all(1, b" ");
-    io::print_decimal(1, at.length as u64);
+    say(texts::SPACE, place.length as usize);
+    true
 }
 
-// A place, nothing, or a refusal.
-pub fn located(answer: Located) {
-    match answer {
-        Located::At(at) => place(at),
-        Located::Nothing => {
-            io::write_all(1, b"nothing");
-        }
-        Located::Refused(refusal) => refused(refusal),
+fn built_in(number: u32, nothing: usize) {
+    if number == answers::BUILT_IN_XML {
+        texts::write(texts::XML);
+        return;
     }
-}
-
-// Yes, no, or a refusal.
-pub fn tested(answer: Tested) {
-    match answer {
-        Tested::Yes => {
-            io::write_all(1, b"yes");
-        }
-        Tested::No => {
-            io::write_all(1, b"no");
-        }
-        Tested::Refused(refusal) => refused(refusal),
-    }
-}
-
-// A place, a built-in, none, or a refusal.
-pub fn in_scope(answer: InScope) {
-    match answer {
-        InScope::At(at) => place(at),
-        InScope::Xml => {
-            io::write_all(1, b"built-in xml");
-        }
-        InScope::Xmlns => {
-            io::write_all(1, b"built-in xmlns");
-        }
-        InScope::Nothing => {
-            io::write_all(1, b"none");
-        }
-        InScope::Refused(refusal) => refused(refusal),
-    }
+    texts::either(number == answers::BUILT_IN_XMLNS, texts::XMLNS, nothing);
 }

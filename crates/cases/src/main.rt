@@ -1,19 +1,16 @@
-// Runs the cases of the scope document that are not proved of the definitions, and prints what each gave. The
-// cases stand in the standard input, one to a line: the operation, the case's name and what the operation is run
-// on, with `|` between two of them. A line that names no operation is printed as it is.
+// Runs the cases of RULES 7.3, which are not proved of the definitions, and prints what each gave. The
+// cases stand in the standard input, one to a line, with `|` between the parts of a line: the operation, two
+// parts that it asks for, the table, written out, and the pool. A line that names no operation is printed as it is.
 mod check_cases;
 mod lookup_cases;
 mod lookup_report;
 mod normalize_cases;
-mod normalize_limits;
 mod normalize_report;
 mod parts;
-mod report;
+mod texts;
 mod words;
 
 fn main() {
-    check_cases::limits();
-    normalize_limits::limits();
     let mut space = io::large_buffer();
     let count = io::read_full(0, &mut space);
     each_line(&space[..count]);
@@ -29,23 +26,42 @@ fn each_line(text: &[u8]) {
 }
 
 fn case(line: &[u8]) {
-    let operation = parts::head(line);
-    if names::same(operation, b"check") {
-        check_cases::case(parts::tail(line));
-        return;
+    let mut words: [u32; words::MOST] = [0; words::MOST];
+    let count = words::read(parts::part(line, 3), &mut words);
+    let plenty: [u8; parts::MOST] = [b'a'; parts::MOST];
+    run(
+        line,
+        &words[..count],
+        parts::pool(parts::part(line, 4), &plenty),
+    );
+}
+
+fn run(line: &[u8], table: &[u32], pool: &[u8]) {
+    match operation(line) {
+        0 => check_cases::case(line, table, pool),
+        1 => lookup_cases::case(line, table, pool),
+        2 => lookup_cases::part_case(line, table, pool),
+        3 => normalize_cases::case(line, table, pool),
+        _ => heading(line),
     }
-    if names::same(operation, b"lookups") {
-        lookup_cases::case(parts::tail(line));
-        return;
-    }
-    if names::same(operation, b"parts") {
-        lookup_cases::part_case(parts::tail(line));
-        return;
-    }
-    if names::same(operation, b"normalize") {
-        normalize_cases::case(parts::tail(line));
-        return;
-    }
+}
+
+fn heading(line: &[u8]) {
     io::write_all(1, line);
-    io::write_all(1, b"\n");
+    texts::write(texts::LINE);
+}
+
+// The number of the operation that a line names; 4 for none.
+fn operation(line: &[u8]) -> usize {
+    let mut number: usize = 0;
+    while number < 4 {
+        if names::same(
+            parts::part(line, 0),
+            parts::part(b"check|lookups|parts|normalize", number),
+        ) {
+            return number;
+        }
+        number += 1;
+    }
+    number
 }

@@ -1,93 +1,84 @@
 // What normalization gave, as text: a line for the answer, and one for each row of the result that is not the table's.
-ghost use Prim.Native.Nat.{_≤_};
-use crate::report::numbered;
-use rules::Normalized;
+ghost use Prim.Native.Nat.{_*_, _≤_};
+ghost use Rattle.rules.specs.Table.{WIDTH, MOST-ROWS};
+use crate::parts::between;
+use crate::texts;
+use crate::texts::either;
+use crate::texts::say;
+use answers::Sizes;
 
-const NONE: u32 = 4294967295;
-
-pub fn normalized(
-    name: &[u8],
-    table: &[u32],
-    pool: &[u8],
-    out_table: &[u32],
-    out_pool: &[u8],
-    answer: Normalized,
-) {
-    io::write_all(1, name);
-    let given = answers::normalized_number(answer);
-    numbered(given);
-    let rows = answers::normalized_rows(answer);
-    let bytes = answers::normalized_bytes(answer);
-    sizes(rows, bytes);
-    if given.number == 0 {
-        pool_after(pool, out_pool, bytes);
-    }
-    cleared(out_table, at_most_1024(rows), out_pool, bytes);
-    changed_rows(table, out_table, at_most_1024(rows));
+pub fn sizes(given: Sizes) {
+    let number = given.number;
+    texts::refusal(texts::REFUSAL, texts::ROW, number);
+    say(texts::ROWS, given.rows);
+    say(texts::BYTES, given.bytes);
+    texts::write(texts::POOL);
 }
 
-fn sizes(rows: usize, bytes: usize) {
-    io::write_all(1, b", ");
-    io::print_decimal(1, rows as u64);
-    io::write_all(1, b" rows, ");
-    io::print_decimal(1, bytes as u64);
-    io::write_all(1, b" bytes");
-}
-
-fn at_most_1024(rows: usize) -> usize
-    ensures { λ r. ⌜ r ≤ 1024 ⌝ }
-{
-    if rows < 1024 {
-        return rows;
-    }
-    1024
-}
-
-// Whether the result's pool starts with the pool, and the bytes that follow.
-fn pool_after(pool: &[u8], out_pool: &[u8], bytes: usize) {
-    if names::same(part(out_pool, 0, pool.len()), pool) {
-        io::write_all(1, b", pool kept");
-    } else {
-        io::write_all(1, b", pool not kept");
-    }
-    io::write_all(1, b", appended <");
-    io::write_all(1, part(out_pool, pool.len(), bytes));
-    io::write_all(1, b">");
-}
-
-// The bytes from one index to another; none where there are no such bytes.
-fn part(bytes: &[u8], from: usize, to: usize) -> &[u8] {
-    if to > bytes.len() {
-        return &bytes[..0];
-    }
-    if from > to {
-        return &bytes[..0];
-    }
-    &bytes[from..to]
-}
-
-// Whether both outputs are zero after the result; a refusal has none, so that they are zero as a whole.
-fn cleared(out_table: &[u32], rows: usize, out_pool: &[u8], bytes: usize)
-    requires { ⌜ rows ≤ 1024 ⌝ }
-{
-    let table_zero = zero_words(out_table, rows * 10);
-    let pool_zero = zero_bytes(out_pool, bytes);
-    if table_zero & pool_zero {
-        io::write_all(1, b", the rest zero\n");
+// Unless it is refused: whether the result's pool starts with the pool, and the bytes that follow.
+pub fn pool_after(pool: &[u8], out_pool: &[u8], given: Sizes) {
+    let number = given.number;
+    if number.number > 0 {
         return;
     }
-    io::write_all(1, b", the rest NOT zero\n");
+    let kept = names::same(between(out_pool, 0, pool.len()), pool);
+    either(kept, texts::KEPT, texts::NOT_KEPT);
+    io::write_all(1, between(out_pool, pool.len(), given.bytes));
+    texts::write(texts::APPENDED);
 }
 
-fn zero_words(words: &[u32], from: usize) -> bool {
-    let mut i = from;
-    while i < words.len() {
-        if words[i] != 0 {
+// Whether both outputs are zero after the result, all of them for a refusal; and the rows of the result that the table
+// does not have.
+pub fn rows_after(table: &[u32], out_table: &[u32], out_pool: &[u8], given: Sizes) {
+    let end = words_of(given.rows);
+    let cleared = same_words(&table[..0], out_table, end, out_table.len());
+    either(
+        cleared & zero_bytes(out_pool, given.bytes),
+        texts::ZERO,
+        texts::NOT_ZERO,
+    );
+    changed_rows(table, out_table, end);
+}
+
+fn changed_rows(table: &[u32], out_table: &[u32], end: usize)
+    requires { ⌜ end ≤ MOST-ROWS * WIDTH ⌝ }
+{
+    let mut start: usize = 0;
+    while start < end {
+        if !same_words(table, out_table, start, start + rules::WIDTH) {
+            show(out_table, start);
+        }
+        start += rules::WIDTH;
+    }
+}
+
+// The words of so many rows; a result has no more than a table may have.
+fn words_of(rows: usize) -> usize
+    ensures { λ r. ⌜ r ≤ MOST-ROWS * WIDTH ⌝ }
+{
+    if rows < rules::MOST_ROWS {
+        return rows * rules::WIDTH;
+    }
+    rules::MOST_ROWS * rules::WIDTH
+}
+
+// The words from one index to another are equal in both tables; past its end, a table has zeros.
+fn same_words(table: &[u32], other: &[u32], from: usize, to: usize) -> bool {
+    let mut at = from;
+    while at < to {
+        if word(table, at) != word(other, at) {
             return false;
         }
-        i += 1;
+        at += 1;
     }
     true
+}
+
+fn word(table: &[u32], at: usize) -> u32 {
+    if at < table.len() {
+        return table[at];
+    }
+    0
 }
 
 fn zero_bytes(bytes: &[u8], from: usize) -> bool {
@@ -101,59 +92,16 @@ fn zero_bytes(bytes: &[u8], from: usize) -> bool {
     true
 }
 
-fn changed_rows(table: &[u32], out_table: &[u32], rows: usize)
-    requires { ⌜ rows ≤ 1024 ⌝ }
+// The number and the words of the row that starts there.
+fn show(table: &[u32], start: usize)
+    requires { ⌜ start ≤ MOST-ROWS * WIDTH ⌝ }
 {
-    let mut row: usize = 0;
-    while row < rows {
-        if differs(table, out_table, row) {
-            show(out_table, row);
-        }
-        row += 1;
+    say(texts::CHANGED_ROW, start / rules::WIDTH);
+    texts::write(texts::WORDS);
+    let mut at = start;
+    while at < start + rules::WIDTH {
+        say(texts::SPACE, word(table, at) as usize);
+        at += 1;
     }
-}
-
-// Whether a row differs between two tables; a row that only one of them has does.
-fn differs(table: &[u32], out_table: &[u32], row: usize) -> bool
-    requires { ⌜ row ≤ 1024 ⌝ }
-{
-    let mut i: usize = 0;
-    while i < 10 {
-        if word(table, row * 10 + i) != word(out_table, row * 10 + i) {
-            return true;
-        }
-        i += 1;
-    }
-    false
-}
-
-fn word(table: &[u32], at: usize) -> u32 {
-    if at < table.len() {
-        return table[at];
-    }
-    0
-}
-
-// A row's number and its ten words.
-fn show(table: &[u32], row: usize)
-    requires { ⌜ row ≤ 1024 ⌝ }
-{
-    io::write_all(1, b"  row ");
-    io::print_decimal(1, row as u64);
-    io::write_all(1, b":");
-    let mut i: usize = 0;
-    while i < 10 {
-        show_word(word(table, row * 10 + i));
-        i += 1;
-    }
-    io::write_all(1, b"\n");
-}
-
-fn show_word(number: u32) {
-    if number == NONE {
-        io::write_all(1, b" -");
-        return;
-    }
-    io::write_all(1, b" ");
-    io::print_decimal(1, number as u64);
+    texts::write(texts::LINE);
 }

@@ -1,66 +1,86 @@
-// A table written out: numbers with a space between two of them, `-` for NONE. Other bytes are passed over, so a
-// comma may end a row.
+// A table written out: its words with a space between two of them, `-` for NONE. In a word, bytes that are no digits are
+// passed over, so a comma may end a row. `*` and a number stand for as many more rows as make it that many: each word
+// grows from row to row as it did between the two rows before.
 ghost use Prim.Native.Nat.{_≤_};
 ghost use lib.ListN.{length};
+use crate::parts::end;
+
+// The words of two rows more than a table may have.
+pub const MOST: usize = (rules::MOST_ROWS + 2) * rules::WIDTH;
 
 // Puts the words of the text into the buffer, as far as it goes, and answers how many.
 pub fn read(text: &[u8], out: &mut [u32]) -> usize
     ensures { λ r. ⌜ r ≤ length (now (out .exit)) ⌝ }
 {
-    if text.len() == 0 {
-        return 0;
-    }
     let mut count: usize = 0;
-    let mut number: u32 = 0;
-    let mut i: usize = 0;
-    while i < text.len() {
-        let b = text[i];
-        count = put(out, count, number, b == b' ');
-        number = with_digit(number, b);
-        i += 1;
-    }
-    put(out, count, number, true)
-}
-
-// Puts one more word into the buffer, if it has ended and there is room.
-fn put(out: &mut [u32], count: usize, number: u32, ended: bool) -> usize
-    requires { ⌜ count ≤ length (now out) ⌝ }
-    ensures { λ r. ⌜ r ≤ length (now (out .exit)) ⌝ }
-{
-    if ended {
-        if count < out.len() {
-            out[count] = number;
-            return count + 1;
-        }
+    let mut from: usize = 0;
+    while from < text.len() {
+        let to = end(text, from, b' ');
+        count = put(&text[from..to], out, count);
+        from = to + 1;
     }
     count
 }
 
-// The number with one more digit; a space starts the next number, `-` makes NONE, and so does a digit too many.
-fn with_digit(number: u32, b: u8) -> u32 {
-    if b == b' ' {
-        return 0;
+// Puts one more word, or the rows that a `*` stands for.
+fn put(word: &[u8], out: &mut [u32], count: usize) -> usize
+    requires { ⌜ count ≤ length (now out) ⌝ }
+    ensures { λ r. ⌜ r ≤ length (now (out .exit)) ⌝ }
+{
+    if word.len() == 0 {
+        return count;
     }
-    if b == b'-' {
-        return 4294967295;
+    if word[0] == b'*' {
+        return go_on(out, count, number(word) as usize);
     }
-    if (b < 48) | (b > 57) {
-        return number;
+    if count < out.len() {
+        out[count] = number(word);
+        return count + 1;
     }
-    if number >= 429496729 {
-        return 4294967295;
-    }
-    number * 10 + digit(b)
+    count
 }
 
-fn digit(b: u8) -> u32
-    ensures { λ r. ⌜ r ≤ 9 ⌝ }
+fn go_on(out: &mut [u32], count: usize, rows: usize) -> usize
+    requires { ⌜ count ≤ length (now out) ⌝ }
+    ensures { λ r. ⌜ r ≤ length (now (out .exit)) ⌝ }
 {
-    if b < 48 {
-        return 0;
+    if count < 2 * rules::WIDTH {
+        return count;
     }
-    if b > 57 {
-        return 9;
+    let mut at = count;
+    while at < out.len() {
+        if at / rules::WIDTH >= rows {
+            return at;
+        }
+        let last = out[at - rules::WIDTH];
+        let step = std::num::wrapping_sub_u32(last, out[at - 2 * rules::WIDTH]);
+        out[at] = std::num::wrapping_add_u32(last, step);
+        at += 1;
     }
-    (b - 48) as u32
+    at
+}
+
+// The number that the digits of a text make; `-` makes NONE, and so does a digit too many.
+pub fn number(text: &[u8]) -> u32 {
+    let mut number: u32 = 0;
+    let mut i: usize = 0;
+    while i < text.len() {
+        number = with_digit(number, text[i]);
+        i += 1;
+    }
+    number
+}
+
+fn with_digit(number: u32, b: u8) -> u32 {
+    if b == b'-' {
+        return rules::NONE;
+    }
+    let digit = std::num::wrapping_sub_u8(b, b'0');
+    if digit > 9 {
+        return number;
+    }
+    if number >= rules::NONE / 10 {
+        return rules::NONE;
+    }
+    number * 10 + digit as u32
 }

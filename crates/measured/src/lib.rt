@@ -4,11 +4,9 @@ ghost use mathlib.Core.Bool.{cond};
 ghost use lib.ListN.{length};
 ghost use Rattle.rules.specs.Answers.{checkNumber, testedYes, inScopePlace, normalizedNumber};
 ghost use Rattle.rules.specs.Refusals.{checked};
-ghost use Rattle.rules.specs.Lookups.{locatedPart, lookupUri, lookupPrefix, testDefault, lookupInScopeUri, lookupInScopePrefix};
+ghost use Rattle.rules.specs.Lookups.{locatedPart, uriOfPrefixAt, prefixOfUriAt, isDefaultAt, inScopeUriAt, inScopePrefixAt};
 ghost use Rattle.rules.specs.Normalization.{normalized};
-use rules::InScope;
 use rules::Row;
-use rules::Tested;
 
 // The number of the refusal that the check answers, 0 for acceptance.
 #[no_mangle]
@@ -22,65 +20,47 @@ pub extern "C" fn measured_check(table: &[u32], pool: &[u8]) -> u32
 // How long the URI of a prefix is; 0 for nothing and for a refusal.
 #[no_mangle]
 pub extern "C" fn measured_uri(table: &[u32], pool: &[u8], row: u32, prefix: &[u8]) -> usize
-    ensures { λ r. ⌜ r ≡ length (locatedPart (now (pool .entry)) (lookupUri (now (table .entry)) (now (pool .entry)) row (now (prefix .entry)))) ⌝ }
+    ensures { λ r. ⌜ r ≡ length (locatedPart (now (pool .entry)) (uriOfPrefixAt (now (table .entry)) (now (pool .entry)) row (now (prefix .entry)))) ⌝ }
 {
-    lookup::uri_part(table, pool, Row(row), prefix).len()
+    lookups::uri_part(table, pool, Row(row), prefix).len()
 }
 
 // How long the prefix of a URI is; 0 for nothing and for a refusal.
 #[no_mangle]
 pub extern "C" fn measured_prefix(table: &[u32], pool: &[u8], row: u32, uri: &[u8]) -> usize
-    ensures { λ r. ⌜ r ≡ length (locatedPart (now (pool .entry)) (lookupPrefix (now (table .entry)) (now (pool .entry)) row (now (uri .entry)))) ⌝ }
+    ensures { λ r. ⌜ r ≡ length (locatedPart (now (pool .entry)) (prefixOfUriAt (now (table .entry)) (now (pool .entry)) row (now (uri .entry)))) ⌝ }
 {
-    lookup::prefix_part(table, pool, Row(row), uri).len()
-}
-
-// 1 for yes, 0 for no and for a refusal.
-fn yes(answer: Tested) -> u32
-    ensures { λ r. ⌜ r ≡ cond (testedYes answer) 1 0 ⌝ }
-{
-    match answer {
-        Tested::Yes => 1,
-        Tested::No => 0,
-        Tested::Refused(_) => 0,
-    }
+    lookups::prefix_part(table, pool, Row(row), uri).len()
 }
 
 // Whether a URI is the default, 1 or 0.
 #[no_mangle]
 pub extern "C" fn measured_default(table: &[u32], pool: &[u8], row: u32, uri: &[u8]) -> u32
-    ensures { λ r. ⌜ r ≡ cond (testedYes (testDefault (now (table .entry)) (now (pool .entry)) row (now (uri .entry)))) 1 0 ⌝ }
+    ensures { λ r. ⌜ r ≡ cond (testedYes (isDefaultAt (now (table .entry)) (now (pool .entry)) row (now (uri .entry)))) 1 0 ⌝ }
 {
-    yes(lookup::test_default(table, pool, Row(row), uri))
-}
-
-// How long what was found is; 0 for a built-in, for nothing and for a refusal.
-fn found_length(answer: InScope) -> u32
-    ensures { λ r. ⌜ r ≡ inScopePlace answer .length ⌝ }
-{
-    match answer {
-        InScope::At(place) => place.length,
-        InScope::Xml => 0,
-        InScope::Xmlns => 0,
-        InScope::Nothing => 0,
-        InScope::Refused(_) => 0,
+    let given = answers::tested(lookups::is_default(table, pool, Row(row), uri));
+    if given.yes {
+        return 1;
     }
+    0
 }
 
 // How long the in-scope URI of a prefix is; 0 for a built-in, for none and for a refusal.
 #[no_mangle]
 pub extern "C" fn measured_in_scope_uri(table: &[u32], pool: &[u8], row: u32, prefix: &[u8]) -> u32
-    ensures { λ r. ⌜ r ≡ inScopePlace (lookupInScopeUri (now (table .entry)) (now (pool .entry)) row (now (prefix .entry))) .length ⌝ }
+    ensures { λ r. ⌜ r ≡ inScopePlace (inScopeUriAt (now (table .entry)) (now (pool .entry)) row (now (prefix .entry))) .length ⌝ }
 {
-    found_length(lookup::lookup_in_scope_uri(table, pool, Row(row), prefix))
+    let given = answers::in_scope(lookups::in_scope_uri(table, pool, Row(row), prefix));
+    given.place.length
 }
 
 // How long the in-scope prefix of a URI is; 0 for a built-in, for none and for a refusal.
 #[no_mangle]
 pub extern "C" fn measured_in_scope_prefix(table: &[u32], pool: &[u8], row: u32, uri: &[u8]) -> u32
-    ensures { λ r. ⌜ r ≡ inScopePlace (lookupInScopePrefix (now (table .entry)) (now (pool .entry)) row (now (uri .entry))) .length ⌝ }
+    ensures { λ r. ⌜ r ≡ inScopePlace (inScopePrefixAt (now (table .entry)) (now (pool .entry)) row (now (uri .entry))) .length ⌝ }
 {
-    found_length(lookup::lookup_in_scope_prefix(table, pool, Row(row), uri))
+    let found = answers::in_scope(lookups::in_scope_prefix(table, pool, Row(row), uri));
+    found.place.length
 }
 
 // The number of the refusal that normalization answers, 0 for success.
@@ -95,7 +75,6 @@ pub extern "C" fn measured_normalize(
     ensures { λ _. ⌜ now («out_table» .exit) ≡ normalized (now (table .entry)) (now (pool .entry)) (length (now («out_table» .entry))) (length (now («out_pool» .entry))) .table ⌝ }
     ensures { λ _. ⌜ now («out_pool» .exit) ≡ normalized (now (table .entry)) (now (pool .entry)) (length (now («out_table» .entry))) (length (now («out_pool» .entry))) .pool ⌝ }
 {
-    let answer = normalizer::normalize(table, pool, out_table, out_pool);
-    let given = answers::normalized_number(answer);
-    given.number
+    let given = answers::normalized(normalizer::normalize(table, pool, out_table, out_pool));
+    given.number.number
 }

@@ -1,32 +1,19 @@
 -- `answers::check_number` meets its contract.
 -- Assumes nothing.
 use Rattle.rules.specs.Answers.{checkNumber}
-use Rattle.answers.proofs.Numbers.{numbered}
+use Rattle.answers.specs.Given.{checkGiven}
+use Rattle.answers.proofs.Told.{told}
 use borrow.Author.Needs.{needs}
 use Rattle.answers.proofs.check_number.Statement.{statement}
 use Rattle.answers.proofs.check_number.Tie as tie
 
-enum-told : tie.Need-enum-told
-enum-told c = search needs
-
-plain-requires : tie.Need-plain-requires
-plain-requires c κs = search needs
-
-enum-known-answer : tie.Need-enum-known-answer
-enum-known-answer c = search needs
-
-number-of-requires : tie.Need-number-of-requires
-number-of-requires c κs = search needs
-
-returns : tie.Need-returns
-unfolding checkNumber
-returns c = numbered checkNumber (c .before .before .before .args .answer) _ (c .before .enum-told .given .1) (c .plain .ensures)
-
-returns-2 : tie.Need-returns-2
-unfolding checkNumber
-returns-2 c = numbered checkNumber (c .before .before .before .before .args .answer) _ (c .before .before .answer .given .1) (c .number-of .ensures)
-
 pub check-number-spec : {M : Type 1} → statement M
+unfolding checkNumber
 check-number-spec =
     tie.close
-    (tie.spec enum-told plain-requires enum-known-answer number-of-requires returns returns-2)
+    (tie.spec
+    (λ c. search needs)
+    (λ c. search needs)
+    (λ c κs. search needs)
+    (λ c. told checkGiven (c .enum-told .given .1))
+    (λ c. rw (c .number-of .ensures) (told checkGiven (c .before .before .answer .given .1))))

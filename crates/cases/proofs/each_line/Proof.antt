@@ -1,8 +1,8 @@
 -- `cases::each_line` meets its contract.
 -- Assumes nothing.
 use Prim.Native.Nat.{_+_, _≤_, _-_}
-use borrow.Author.Needs.{needs}
 use lib.ListN.{length}
+use borrow.Author.Needs.{needs}
 use Rattle.cases.proofs.each_line.Statement.{statement}
 use Rattle.cases.proofs.each_line.Tie as tie
 

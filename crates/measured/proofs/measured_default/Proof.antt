@@ -1,21 +1,21 @@
 -- `measured::measured_default` meets its contract.
 -- Assumes nothing.
-use mathlib.Core.Bool.{cond}
-use mathlib.Core.Path.{ap, _∙_}
-use Rattle.rules.specs.Answers.{testedYes}
-use Rattle.rules.specs.declared.Tested.{Tested}
 use borrow.Author.Needs.{needs}
+use Rattle.measured.proofs.Told.{yes-told, no-told}
 use Rattle.measured.proofs.measured_default.Statement.{statement}
 use Rattle.measured.proofs.measured_default.Tie as tie
 
-test-default-requires : tie.Need-test-default-requires
-test-default-requires c κs = search needs
+is-default-requires : tie.Need-is-default-requires
+is-default-requires c κs = search needs
 
-yes-requires : tie.Need-yes-requires
-yes-requires c κs = search needs
+tested-requires : tie.Need-tested-requires
+tested-requires c κs = search needs
 
 returns : tie.Need-returns
-returns c = c .yes .ensures ∙ ap (λ (answer : Tested). cond (testedYes answer) 1 0) (c .before .test-default .ensures)
+returns c = yes-told _ _ _ (c .before .tested .ensures) (c .before .before .is-default .ensures) (c .if1 .taken)
+
+returns-2 : tie.Need-returns-2
+returns-2 c = no-told _ _ _ (c .before .tested .ensures) (c .before .before .is-default .ensures) (c .if1 .left)
 
 pub measured-default-spec : {M : Type 1} → statement M
-measured-default-spec = tie.close (tie.spec test-default-requires yes-requires returns)
+measured-default-spec = tie.close (tie.spec is-default-requires tested-requires returns returns-2)

@@ -10,7 +10,7 @@ prefix-part-requires : tie.Need-prefix-part-requires
 prefix-part-requires c κs = search needs
 
 returns : tie.Need-returns
-returns c = ap length (c .prefix-part .ensures)
+returns c = ap length (c .prefix-part .ensures .0)
 
 pub measured-prefix-spec : {M : Type 1} → statement M
 measured-prefix-spec = tie.close (tie.spec prefix-part-requires returns)

@@ -10,7 +10,7 @@ uri-part-requires : tie.Need-uri-part-requires
 uri-part-requires c κs = search needs
 
 returns : tie.Need-returns
-returns c = ap length (c .uri-part .ensures)
+returns c = ap length (c .uri-part .ensures .0)
 
 pub measured-uri-spec : {M : Type 1} → statement M
 measured-uri-spec = tie.close (tie.spec uri-part-requires returns)

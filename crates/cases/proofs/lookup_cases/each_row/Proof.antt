@@ -1,37 +1,37 @@
 -- `lookup_cases::each_row` meets its contract.
 -- Assumes nothing.
-use Prim.Native.Nat.{_+_, _≤_, _-_}
+use Prim.Native.Nat.{_≤_, _-_}
 use lib.ListN.{length}
 use borrow.Author.Needs.{needs}
 use Rattle.cases.proofs.lookup_cases.each_row.Statement.{statement}
 use Rattle.cases.proofs.lookup_cases.each_row.Tie as tie
 
 abbrev Inv-loop : tie.InvT-loop
-Inv-loop table pool prefix uri rows from₀ from = from ≤ length rows + 1
+Inv-loop line table pool prefix uri number₀ number = 5 ≤ number
 
 abbrev μ-loop : tie.MeasureT-loop
-μ-loop table pool prefix uri rows from₀ from = length rows - from
+μ-loop line table pool prefix uri number₀ number = length line - number
 
 loop-holds : tie.Need-loop-holds Inv-loop μ-loop
 loop-holds c = search needs
 
-end-requires : tie.Need-end-requires Inv-loop μ-loop
-end-requires c κs = search needs
+part-requires : tie.Need-part-requires Inv-loop μ-loop
+part-requires c κs = search needs
 
-sub-answers : tie.Need-sub-answers Inv-loop μ-loop
-sub-answers c = search needs
+returns : tie.Need-returns Inv-loop μ-loop
+returns c = search needs
 
-part-answers-start : tie.Need-part-answers-start Inv-loop μ-loop
-part-answers-start c = search needs
+write-all-requires : tie.Need-write-all-requires Inv-loop μ-loop
+write-all-requires c κs = search needs
 
-part-answers-end : tie.Need-part-answers-end Inv-loop μ-loop
-part-answers-end c = search needs
+numbered-requires : tie.Need-numbered-requires Inv-loop μ-loop
+numbered-requires c κs = search needs
 
-answers-requires : tie.Need-answers-requires Inv-loop μ-loop
-answers-requires c κs = search needs
+lookups-requires : tie.Need-lookups-requires Inv-loop μ-loop
+lookups-requires c κs = search needs
 
-add-from : tie.Need-add-from Inv-loop μ-loop
-add-from c = search needs
+add-number : tie.Need-add-number Inv-loop μ-loop
+add-number c = search needs
 
 loop-less : tie.Need-loop-less Inv-loop μ-loop
 loop-less c = search needs
@@ -39,8 +39,8 @@ loop-less c = search needs
 loop-again : tie.Need-loop-again Inv-loop μ-loop
 loop-again c = search needs
 
-returns : tie.Need-returns Inv-loop μ-loop
-returns c = search needs
+returns-2 : tie.Need-returns-2 Inv-loop μ-loop
+returns-2 c = search needs
 
 pub each-row-spec : {M : Type 1} → statement M
 each-row-spec =
@@ -49,12 +49,12 @@ each-row-spec =
     Inv-loop
     μ-loop
     loop-holds
-    end-requires
-    sub-answers
-    part-answers-start
-    part-answers-end
-    answers-requires
-    add-from
+    part-requires
+    returns
+    write-all-requires
+    numbered-requires
+    lookups-requires
+    add-number
     loop-less
     loop-again
-    returns)
+    returns-2)

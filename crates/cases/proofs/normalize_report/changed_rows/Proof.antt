@@ -1,27 +1,31 @@
 -- `normalize_report::changed_rows` meets its contract.
 -- Assumes nothing.
-use Prim.Native.Nat.{_≤_, _-_}
+use Prim.Native.Nat.{_+_, _≤_, _-_}
+use Rattle.rules.specs.Table.{WIDTH}
 use borrow.Author.Needs.{needs}
 use Rattle.cases.proofs.normalize_report.changed_rows.Statement.{statement}
 use Rattle.cases.proofs.normalize_report.changed_rows.Tie as tie
 
 abbrev Inv-loop : tie.InvT-loop
-Inv-loop table out-table rows row₀ row = row ≤ rows
+Inv-loop table out-table end start₀ start = start ≤ end + WIDTH
 
 abbrev μ-loop : tie.MeasureT-loop
-μ-loop table out-table rows row₀ row = rows - row
+μ-loop table out-table end start₀ start = end + WIDTH - start
 
 loop-holds : tie.Need-loop-holds Inv-loop μ-loop
 loop-holds c = search needs
 
-differs-requires : tie.Need-differs-requires Inv-loop μ-loop
-differs-requires c κs = search needs
+add-same-words : tie.Need-add-same-words Inv-loop μ-loop
+add-same-words c = search needs
+
+same-words-requires : tie.Need-same-words-requires Inv-loop μ-loop
+same-words-requires c κs = search needs
 
 show-requires : tie.Need-show-requires Inv-loop μ-loop
 show-requires c κs = search needs
 
-add-row : tie.Need-add-row Inv-loop μ-loop
-add-row c = search needs
+add-start : tie.Need-add-start Inv-loop μ-loop
+add-start c = search needs
 
 loop-less : tie.Need-loop-less Inv-loop μ-loop
 loop-less c = search needs
@@ -39,9 +43,10 @@ changed-rows-spec =
     Inv-loop
     μ-loop
     loop-holds
-    differs-requires
+    add-same-words
+    same-words-requires
     show-requires
-    add-row
+    add-start
     loop-less
     loop-again
     returns)

@@ -1,8 +1,8 @@
 -- `parts::end` meets its contract.
 -- Assumes nothing.
 use Prim.Native.Nat.{_≤_, _-_}
-use borrow.Author.Needs.{needs}
 use lib.ListN.{length}
+use borrow.Author.Needs.{needs}
 use Rattle.cases.proofs.parts.end.Statement.{statement}
 use Rattle.cases.proofs.parts.end.Tie as tie
 

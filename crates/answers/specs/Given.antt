@@ -1,0 +1,33 @@
+-- RULES 2: the numbers and values of each answer, as the structs that hand them on.
+use Rattle.rules.specs.Answers as rules
+use Rattle.rules.specs.declared.Refusal.{Refusal}
+use Rattle.rules.specs.declared.Checked.{Checked}
+use Rattle.rules.specs.declared.Located.{Located}
+use Rattle.rules.specs.declared.Tested.{Tested}
+use Rattle.rules.specs.declared.InScope.{InScope}
+use Rattle.rules.specs.declared.Normalized.{Normalized}
+use Rattle.answers.specs.declared.Number.{Number}
+use Rattle.answers.specs.declared.Found.{Found}
+use Rattle.answers.specs.declared.Test.{Test}
+use Rattle.answers.specs.declared.Sizes.{Sizes}
+
+abbrev pub numberGiven : rules.Number → Number
+numberGiven n = record { number = n .number; row = record { 0 = n .row } }
+
+abbrev pub refusalGiven : Refusal → Number
+refusalGiven x = numberGiven (rules.numberOf x)
+
+abbrev pub checkGiven : Checked → Number
+checkGiven a = numberGiven (rules.checkNumber a)
+
+abbrev pub locatedGiven : Located → Found
+locatedGiven a = record { number = numberGiven (rules.locatedNumber a); place = rules.locatedPlace a; «built_in» = rules.NO-BUILT-IN }
+
+abbrev pub testedGiven : Tested → Test
+testedGiven a = record { number = numberGiven (rules.testedNumber a); yes = rules.testedYes a }
+
+abbrev pub inScopeGiven : InScope → Found
+inScopeGiven a = record { number = numberGiven (rules.inScopeNumber a); place = rules.inScopePlace a; «built_in» = rules.inScopeBuiltIn a }
+
+abbrev pub normalizedGiven : Normalized → Sizes
+normalizedGiven a = record { number = numberGiven (rules.normalizedNumber a); rows = rules.normalizedRows a; bytes = rules.normalizedBytes a }
