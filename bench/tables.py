@@ -1,5 +1,5 @@
 #!/usr/bin/env python3
-"""Writes the tables that bench/measure counts instructions on.
+"""Writes the tables that bench/measure counts instructions and bytes of stack on.
 
 Usage: bench/tables.py DIR
 
@@ -254,9 +254,50 @@ def references(rows):
     return table
 
 
+def in_each_other(rows, body, declared):
+    """Rows in each other below one element, of these types in turn; the last row is always an element. The names of the
+    elements below have a prefix, so that the default test goes on. What is asked for is at the top: the prefix in the top
+    element's own name, or, if it is to be declared there, with the default namespace and the prefix of the others."""
+    table, last = Table(), rows - 1
+    other, asked = ((table.place(PREFIXES[k]), table.place("part"), table.place(URIS[k])) for k in (0, 1))
+    row = table.add(1, NONE, NOTHING if declared else asked[0], *asked[1:])
+    if declared:
+        for prefix, uri in ((NOTHING, asked[2]), (asked[0], asked[2]), (other[0], other[2])):
+            table.add(13, row, local=prefix, value=uri)
+    while len(table.rows) < rows:
+        kind = body[len(table.rows) % len(body)] if len(table.rows) < last else 1
+        row = table.add(kind, row, *(other if kind == 1 else ()))
+    return table
+
+
+def elements_own(rows):
+    return in_each_other(rows, (1,), False)
+
+
+def elements_declared(rows):
+    return in_each_other(rows, (1,), True)
+
+
+def references_own(rows):
+    return in_each_other(rows, (5,), False)
+
+
+def references_declared(rows):
+    return in_each_other(rows, (5,), True)
+
+
+def both_own(rows):
+    return in_each_other(rows, (1, 5), False)
+
+
+def both_declared(rows):
+    return in_each_other(rows, (1, 5), True)
+
+
 CHECKED = (ordinary, apart, one_owner, texts, long_names)
 ASKED = (chain,)
 NORMALIZED = (typical, deep, wide, shadowed, shadowed_once, numbered, references)
+DEEPEST = (elements_own, elements_declared, references_own, references_declared, both_own, both_declared)
 
 
 def main():
@@ -265,6 +306,8 @@ def main():
     for make in CHECKED + ASKED + NORMALIZED:
         for rows in (250, 500, 1000):
             make(rows).write("%s/%s-%d" % (sys.argv[1], make.__name__, rows))
+    for make in DEEPEST:
+        make(1024).write("%s/%s-1024" % (sys.argv[1], make.__name__))
 
 
 main()

@@ -1,0 +1,370 @@
+"""Tables to compare two readings on, each made from a seed and its number alone.
+
+    case(seed, number) -> Case
+
+The kinds, from common to rare: grafted trees, whose names and declarations come from several makers; typical trees, of
+one maker; damaged ones; wild ones, whose names keep no rule; random words; tables at the limits.
+"""
+from random import Random
+from typing import NamedTuple
+
+NONE = 4294967295
+MOST_WORDS = 10240
+MOST_BYTES = 32768
+XML_URI = b"http://www.w3.org/XML/1998/namespace"
+XMLNS_URI = b"http://www.w3.org/2000/xmlns/"
+
+# Mostly of different lengths, since an answer may be no more than a length. Some are parts of others.
+PREFIXES = (b"p", b"qq", b"rstu", b"NS1", b"NS2", b"NS10x", b"\xc3\xa9t\xc3\xa9ou")
+URIS = (b"U", b"u:", b"urn", b"urn:", b"urn:w", b"http://e/", b"http://e/x", b"\x00\xff 7 bytes")
+NAMES = (b"a", b"id", b"lang", b"xml", b"xmlns", b"_b.-1", b"\x80\xff")
+WHOLE_NAMES = (b"p:a", b":", b"a", b"xmlns", b"xmlns:p", b"id")
+
+
+class Case(NamedTuple):
+    """A table and what is asked of it: each question is a row, a prefix and a URI; each room is a number of words and of
+    bytes more than the result needs, or less."""
+    kind: str
+    table: list
+    pool: bytes
+    questions: list
+    rooms: list
+
+
+class Maker:
+    def __init__(self, random):
+        self.random, self.rows, self.pool, self.taken = random, [], bytearray(), set()
+
+    def place(self, text):
+        """A place that holds the text: one that is there, or a new one."""
+        if not text:
+            return 0, 0
+        at = -1
+        if self.random.random() < 0.7:
+            at = self.pool.find(text) if self.random.random() < 0.5 else self.pool.rfind(text)
+        if at < 0:
+            at = len(self.pool)
+            self.pool += text
+        return at, len(text)
+
+    def add(self, type, parent, prefix=b"", local_name=b"", uri=b"", value=b""):
+        fields = [word for text in (prefix, local_name, uri, value) for word in self.place(text)]
+        self.rows.append([type, parent, *fields])
+        return len(self.rows) - 1
+
+    def free(self, *key):
+        """Whether the key was not taken yet; it is now."""
+        fresh = key not in self.taken
+        self.taken.add(key)
+        return fresh
+
+    def table(self):
+        return [word for row in self.rows for word in row]
+
+
+class OneMaker:
+    """The names of a tree of one maker: a prefix has one URI, everywhere."""
+
+    def __init__(self, random):
+        self.random = random
+        self.bindings = list(zip(random.sample(PREFIXES, 4), random.choices(URIS, k=4)))
+
+    def element(self):
+        prefix, uri = self.random.choice(self.bindings)
+        return (prefix, uri) if self.random.random() < 0.8 else (b"", self.random.choice((b"", b"", uri)))
+
+    def attribute(self):
+        if self.random.random() < 0.05:
+            return b"xml", XML_URI
+        return self.random.choice(self.bindings) if self.random.random() < 0.5 else (b"", b"")
+
+    def declaration(self):
+        if self.random.random() < 0.1:
+            return b"", self.random.choice((b"", self.bindings[0][1]))
+        return self.random.choice(self.bindings)
+
+
+class ManyMakers:
+    """Names and declarations that need not go together, and are legal each by itself."""
+
+    def __init__(self, random):
+        self.random = random
+        self.prefixes = random.sample(PREFIXES, random.randint(1, 4))
+        self.uris = random.sample(URIS, random.randint(1, 4))
+
+    def element(self):
+        chance = self.random.random()
+        if chance < 0.15:
+            return b"", b""
+        if chance < 0.18:
+            return b"xml", XML_URI
+        return self.random.choice((b"", *self.prefixes)), self.random.choice(self.uris)
+
+    def attribute(self):
+        chance = self.random.random()
+        if chance < 0.15:
+            return b"", b""
+        if chance < 0.22:
+            return self.random.choice((b"", b"xml", *self.prefixes)), XML_URI
+        return self.random.choice((b"", b"", *self.prefixes)), self.random.choice(self.uris)
+
+    def declaration(self):
+        chance = self.random.random()
+        if chance < 0.25:
+            return b"", self.random.choice((b"", *self.uris))
+        if chance < 0.28:
+            return b"xml", XML_URI
+        return self.random.choice(self.prefixes), self.random.choice(self.uris)
+
+
+class NoRule:
+    """Names and declarations that may break every rule."""
+
+    def __init__(self, random):
+        self.random = random
+
+    def element(self):
+        return (self.random.choice((b"", b"", b"xml", b"xmlns", *PREFIXES)),
+                self.random.choice((b"", XML_URI, XMLNS_URI, *URIS, *URIS)))
+
+    attribute = declaration = element
+
+
+def grow(maker, names, size, level1=False, doubles=False):
+    """Lets the table grow to some size, at random places. Where nothing of its kind may stand, nothing is added."""
+    random = maker.random
+    elements, holders, documents, types = [], [], [], []
+    for _ in range(random.choice((1, 1, 1, 2))):
+        kind = random.choice((1, 9, 9, 11, 5))
+        if kind == 9:
+            documents.append(maker.add(9, NONE))
+        elif kind != 1:
+            holders.append(maker.add(kind, NONE))
+    attempts = 4 * size + 4
+    while len(maker.rows) < size and attempts:
+        attempts -= 1
+        chance = random.random()
+        owner = elements[-1] if elements and random.random() < 0.5 else random.choice(elements) if elements else None
+        if chance < 0.4 or owner is None:
+            parents = elements[-2:] + elements + holders + documents or [NONE]
+            parent = random.choice(parents) if random.random() < 0.97 else NONE
+            if parent in documents and not (maker.free("child", parent) or doubles):
+                continue
+            if level1 and random.random() < 0.3:
+                elements.append(maker.add(257, parent, local_name=random.choice(WHOLE_NAMES)))
+            else:
+                prefix, uri = names.element()
+                elements.append(maker.add(1, parent, prefix, random.choice(NAMES), uri))
+        elif chance < 0.6:
+            prefix, uri = names.declaration()
+            if maker.free(13, owner, prefix) or doubles:
+                maker.add(13, owner, local_name=prefix, value=uri)
+        elif chance < 0.85:
+            owner = NONE if random.random() < 0.05 else owner
+            value = random.choice((b"", b"value"))
+            if level1 and random.random() < 0.3:
+                name = random.choice(WHOLE_NAMES)
+                if owner == NONE or maker.free(258, owner, name) or doubles:
+                    maker.add(258, owner, local_name=name, value=value)
+            else:
+                prefix, uri = names.attribute()
+                name = random.choice(NAMES)
+                if not prefix and name == b"xmlns" and not doubles:
+                    name = b"a"
+                if owner == NONE or maker.free(2, owner, uri, name) or doubles:
+                    maker.add(2, owner, prefix, name, uri, value)
+        elif chance < 0.97:
+            kind = random.choice((3, 4, 5, 5, 5, 7, 8))
+            parents = elements[-1:] + holders + (documents if kind in (7, 8) else [])
+            parent = random.choice(parents + [NONE] if random.random() < 0.1 else parents)
+            row = maker.add(kind, parent, value=random.choice((b"", b"value")))
+            if kind == 5:
+                holders.append(row)
+        else:
+            kind = random.choice((10, 6, 12))
+            parents = documents if kind == 10 else types
+            row = maker.add(kind, random.choice(parents) if parents and random.random() < 0.8 else NONE)
+            if kind == 10:
+                types.append(row)
+
+
+def small(random):
+    """A number of rows, mostly small."""
+    return random.choice((random.randint(0, 6), random.randint(3, 12), random.randint(3, 12), random.randint(8, 30)))
+
+
+def typical(random):
+    maker = Maker(random)
+    names = OneMaker(random)
+    if random.random() < 0.7:
+        root = maker.add(1, NONE, local_name=b"root")
+        for prefix, uri in names.bindings:
+            maker.free(13, root, prefix)
+            maker.add(13, root, local_name=prefix, value=uri)
+    grow(maker, names, len(maker.rows) + small(random), level1=random.random() < 0.1)
+    return maker.table(), bytes(maker.pool)
+
+
+def grafted(random):
+    maker = Maker(random)
+    grow(maker, ManyMakers(random), small(random), level1=random.random() < 0.15, doubles=random.random() < 0.05)
+    return maker.table(), bytes(maker.pool)
+
+
+def wild(random):
+    maker = Maker(random)
+    grow(maker, NoRule(random), random.randint(1, 8), level1=random.random() < 0.2, doubles=random.random() < 0.5)
+    return maker.table(), bytes(maker.pool)
+
+
+def damaged(random):
+    """A tree with one thing wrong, or two."""
+    table, pool = random.choice((typical, grafted))(random)
+    table, pool = list(table), bytearray(pool)
+    for _ in range(random.choice((1, 1, 2))):
+        rows = len(table) // 10
+        how = random.randint(0, 7)
+        if how == 0:
+            del table[len(table) - random.randint(0, 9):]
+        elif how == 1:
+            table += [random.choice((0, 1, 13, NONE)) for _ in range(random.randint(1, 10))]
+        elif how == 2 and pool:
+            del pool[-1]
+        elif how == 3 and pool:
+            pool[random.randrange(len(pool))] = random.choice(b":- ./@[`{09\x7f\x80")
+        elif rows:
+            row, other = 10 * random.randrange(rows), 10 * random.randrange(rows)
+            if how == 4:
+                # The same row again; in half of the tables its names stand at other places.
+                again = table[row:row + 10]
+                for word in (2, 4, 6, 8) if random.random() < 0.5 else ():
+                    text = pool[again[word]:again[word] + again[word + 1]]
+                    if text:
+                        again[word] = len(pool)
+                        pool += text
+                table += again
+            elif how == 5:
+                table[row:row + 10], table[other:other + 10] = table[other:other + 10], table[row:row + 10]
+            elif how == 6:
+                table[row] = random.choice((0, 1, 2, 3, 5, 9, 10, 11, 13, 14, 256, 257, 258, 259, NONE))
+            else:
+                word = row + random.randrange(1, 10)
+                table[word] = random.choice((0, 1, table[word] + 1, max(table[word], 1) - 1, row // 10, row // 10 + 1,
+                                             len(pool), len(pool) + 1, 2**31, 2**32 - 2, NONE,
+                                             table[other + random.randrange(10)])) % 2**32
+    return table, bytes(pool)
+
+
+def random_words(random):
+    pool = bytes(random.choices(b"aabU:-1\x00\x80", k=random.randint(0, 6)))
+    table = []
+    for row in range(random.randint(0, 4)):
+        table += [random.choice((1, 1, 2, 13, 5, 9, 257, 258, random.randint(0, 14))),
+                  random.choice((NONE, max(row, 1) - 1, random.randint(0, row)))]
+        for _ in range(4):
+            length = random.choice((0, 0, 1, 1, 2, random.randint(0, 7)))
+            offset = 0 if length == 0 and random.random() < 0.95 else random.randint(0, 5)
+            table += [offset, length]
+    if random.random() < 0.1:
+        table = random.choices((0, 1, 2, 13, NONE, random.getrandbits(32)), k=random.randint(0, 25))
+    return table, pool
+
+
+def full(maker, rows):
+    """A table of so many rows, of one shape: texts, attributes, elements in each other, entity references, or both in
+    turn."""
+    shape = maker.random.choice(("texts", "texts", "attributes", "elements", "references", "references", "both"))
+    root = parent = maker.add(1, NONE, local_name=b"root")
+    maker.add(13, root, local_name=b"p", value=b"U")
+    while len(maker.rows) < rows:
+        if shape == "texts":
+            maker.add(3, root)
+        elif shape == "attributes":
+            maker.add(2, root, local_name=b"a%d" % len(maker.rows))
+        elif shape == "references" or shape == "both" and len(maker.rows) % 2:
+            parent = maker.add(5, parent)
+        else:
+            parent = maker.add(1, parent, b"p", b"a", b"U")
+
+
+def growing(maker, result):
+    """A table whose result has so many rows: each attribute adds one, and the element when it is time."""
+    root = maker.add(1, NONE, local_name=b"root")
+    added = 0
+    while len(maker.rows) + added + 1 < result:
+        if maker.random.random() < 0.05:
+            maker.add(1, root, b"q%d" % len(maker.rows), b"a", b"V")
+        else:
+            maker.add(2, root, b"", b"a", b"%d" % len(maker.rows))
+        added += 1
+    if len(maker.rows) + added < result:
+        maker.add(3, root)
+
+
+def longer(maker):
+    """Attributes that each add three bytes to the pool; answers how many they add."""
+    root = maker.add(1, NONE, local_name=b"root")
+    attributes = maker.random.randint(1, 9)
+    for k in range(attributes):
+        maker.add(2, root, b"", b"a%d" % k, maker.random.choice((XML_URI, b"%d" % k)))
+    return 3 * attributes
+
+
+def limits(random):
+    """Tables at the limits: the rows and the pool of the input, or those of the result."""
+    maker, about = Maker(random), random.choice((-1, 0, 0, 1))
+    what = random.choice(("rows", "rows", "rows of the result", "bytes", "bytes of the result"))
+    if what == "rows":
+        full(maker, MOST_WORDS // 10 + about)
+    elif what == "rows of the result":
+        growing(maker, MOST_WORDS // 10 + about)
+        if random.random() < 0.3:
+            # Too many bytes as well.
+            maker.pool += bytes(MOST_BYTES - random.randint(0, 9) - len(maker.pool))
+    else:
+        added = 0
+        if what == "bytes":
+            grow(maker, ManyMakers(random), 20)
+        else:
+            added = longer(maker)
+        maker.pool += bytes(MOST_BYTES + about - added - len(maker.pool))
+    table = maker.table()
+    if random.random() < 0.05:
+        del table[-1]
+    elif random.random() < 0.05:
+        table.append(0)
+    return table, bytes(maker.pool)
+
+
+KINDS = ((grafted, 40), (typical, 20), (damaged, 20), (wild, 10), (random_words, 9.7), (limits, 0.3))
+
+
+def held(random, table, pool, words):
+    """A name that the table holds in one of these words, or none."""
+    if len(table) < 10:
+        return b""
+    at = 10 * random.randrange(len(table) // 10) + random.choice(words)
+    return pool[table[at]:table[at] + table[at + 1]]
+
+
+def case(seed, number):
+    random = Random("%d/%d" % (seed, number))
+    kind = random.choices([kind for kind, _ in KINDS], [weight for _, weight in KINDS])[0]
+    table, pool = kind(random)
+    rows = len(table) // 10
+    questions = []
+    for _ in range(2 if kind is limits else 5):
+        row = random.randrange(rows) if rows and random.random() < 0.93 else random.choice((0, rows, rows + 1, 2**31, NONE))
+        if kind is limits and random.random() < 0.7:
+            row = max(rows, 1) - 1
+        prefix, uri = random.choice((b"", b"xml", b"xmlns", *PREFIXES)), random.choice((b"", XML_URI, XMLNS_URI, *URIS))
+        chance = random.random()
+        if chance < 0.5:
+            prefix, uri = held(random, table, pool, (2, 4)), held(random, table, pool, (6, 8))
+        elif chance < 0.6:
+            prefix = uri = held(random, table, pool, (2, 4, 6, 8))
+        questions.append((row, prefix, uri))
+    rooms = [(random.choice((0, 0, 1, 9, 10, 25)), random.choice((0, 0, 1, 7))),
+             (random.choice((0, 0, -1, -9, -10, -11)), random.choice((0, 0, -1, -2, -3))),
+             (0, random.choice((-1, -3, -100)))]
+    return Case(kind.__name__, table, pool, questions, rooms[:1] if kind is limits else rooms)

@@ -1,0 +1,518 @@
+"""A second reading of the rules: the check of a node table, the lookups and normalization, as docs/RULES.md says
+them, in its order and words, written without a look at the library. tests/compare holds the library to it.
+
+A table is a sequence of words, a pool a string of bytes, a row a number, a query a string of bytes.
+
+    check(table, pool) -> (number, row)
+    uri_of_prefix(table, pool, row, query) -> (number, row, offset, length)
+    prefix_of_uri(table, pool, row, query) -> (number, row, offset, length)
+    is_default(table, pool, row, query) -> (number, row, yes)
+    in_scope_uri(table, pool, row, query) -> (number, row, kind, offset, length)
+    in_scope_prefix(table, pool, row, query) -> (number, row, kind, offset, length)
+    normalize(table, pool, out_words, out_bytes) -> (number, row, rows, bytes, out_table, out_pool)
+
+Number 0 is no refusal. A kind is "none", "place", "xml" or "xmlns", of which the last two are built in.
+"""
+from functools import lru_cache
+from itertools import count
+from typing import NamedTuple
+
+# The node table.
+
+WIDTH = 10
+MOST_ROWS = 1024
+MOST_BYTES = 32768
+NONE = 4294967295
+
+ELEMENT = 1
+ATTRIBUTE = 2
+TEXT = 3
+CDATA = 4
+ENTITY_REFERENCE = 5
+ENTITY = 6
+INSTRUCTION = 7
+COMMENT = 8
+DOCUMENT = 9
+DOCUMENT_TYPE = 10
+FRAGMENT = 11
+NOTATION = 12
+DECLARATION = 13
+LEVEL1_ELEMENT = 257
+LEVEL1_ATTRIBUTE = 258
+
+ELEMENTS = (ELEMENT, LEVEL1_ELEMENT)
+ATTRIBUTES = (ATTRIBUTE, LEVEL1_ATTRIBUTE)
+
+ALLOWED_PARENTS = {
+    ELEMENT: (NONE, *ELEMENTS, ENTITY_REFERENCE, DOCUMENT, FRAGMENT),
+    LEVEL1_ELEMENT: (NONE, *ELEMENTS, ENTITY_REFERENCE, DOCUMENT, FRAGMENT),
+    ATTRIBUTE: (NONE, *ELEMENTS),
+    LEVEL1_ATTRIBUTE: (NONE, *ELEMENTS),
+    DECLARATION: ELEMENTS,
+    TEXT: (NONE, *ELEMENTS, ENTITY_REFERENCE, FRAGMENT),
+    CDATA: (NONE, *ELEMENTS, ENTITY_REFERENCE, FRAGMENT),
+    ENTITY_REFERENCE: (NONE, *ELEMENTS, ENTITY_REFERENCE, FRAGMENT),
+    INSTRUCTION: (NONE, *ELEMENTS, ENTITY_REFERENCE, DOCUMENT, FRAGMENT),
+    COMMENT: (NONE, *ELEMENTS, ENTITY_REFERENCE, DOCUMENT, FRAGMENT),
+    DOCUMENT_TYPE: (NONE, DOCUMENT),
+    ENTITY: (NONE, DOCUMENT_TYPE),
+    NOTATION: (NONE, DOCUMENT_TYPE),
+    DOCUMENT: (NONE,),
+    FRAGMENT: (NONE,),
+}
+
+XML_URI = b"http://www.w3.org/XML/1998/namespace"
+XMLNS_URI = b"http://www.w3.org/2000/xmlns/"
+
+
+class Field(NamedTuple):
+    """Where a name stands in the pool, and its bytes. Names are compared by bytes, never by offset."""
+    offset: int
+    length: int
+    text: bytes
+
+
+EMPTY = Field(0, 0, b"")
+
+
+class Row:
+    def __init__(self, number, type, parent, prefix, local_name, uri, value):
+        self.number = number
+        self.type = type
+        self.parent = parent
+        self.prefix = prefix
+        self.local_name = local_name
+        self.uri = uri
+        self.value = value
+
+    def fields(self):
+        return self.prefix, self.local_name, self.uri, self.value
+
+    def words(self):
+        words = [self.type, self.parent]
+        for field in self.fields():
+            words += [field.offset, field.length]
+        return words
+
+
+class Tree:
+    """The rows of a table, and for each row those of which it is the parent, or the owner, in row order."""
+
+    def __init__(self, table, pool):
+        self.rows, self.under, self.pool = [], {}, pool
+        for at in range(0, len(table), WIDTH):
+            type, parent, *places = table[at:at + WIDTH]
+            fields = [Field(offset, length, pool[offset:offset + length])
+                      for offset, length in zip(places[::2], places[1::2])]
+            self.add(Row(len(self.rows), type, parent, *fields))
+
+    def add(self, row):
+        self.rows.append(row)
+        self.under.setdefault(row.parent, []).append(row)
+
+    def parent_of(self, row):
+        return None if row.parent == NONE else self.rows[row.parent]
+
+    def owned(self, element, type):
+        """The rows of one owner need not be adjacent; their order is row order."""
+        return [row for row in self.under.get(element.number, ()) if row.type == type]
+
+    def declarations(self, element):
+        return self.owned(element, DECLARATION)
+
+
+# Refusal numbers.
+
+def wrong_size(table, pool):
+    """1: word count not a multiple of 10 or above 10,240, or pool above 32,768."""
+    return len(table) % WIDTH != 0 or len(table) > WIDTH * MOST_ROWS or len(pool) > MOST_BYTES
+
+
+def wrong_structure(tree, row):
+    """2: unknown type; parent not NONE and not less than the row; parent type not allowed; a second element (1 or 257)
+    under one document."""
+    if row.type not in ALLOWED_PARENTS:
+        return True
+    if row.parent != NONE and row.parent >= row.number:
+        return True
+    parent = tree.parent_of(row)
+    if (parent.type if parent else NONE) not in ALLOWED_PARENTS[row.type]:
+        return True
+    return row.type in ELEMENTS and parent is not None and parent.type == DOCUMENT and any(
+        other.type in ELEMENTS and other.number < row.number for other in tree.under[parent.number])
+
+
+def wrong_fields(tree, row):
+    """3: a field runs past the pool (offset plus length above its length); length 0 with offset not 0; a field not empty
+    that must be."""
+    for field in row.fields():
+        if field.offset + field.length > len(tree.pool):
+            return True
+        if field.length == 0 and field.offset != 0:
+            return True
+    return any(field.length != 0 for field in must_be_empty(row))
+
+
+def must_be_empty(row):
+    """The value of elements; prefix and URI of 13, 257, 258; prefix, local name and URI of all types but 1, 2, 13, 257,
+    258."""
+    fields = []
+    if row.type in ELEMENTS:
+        fields += [row.value]
+    if row.type in (DECLARATION, LEVEL1_ELEMENT, LEVEL1_ATTRIBUTE):
+        fields += [row.prefix, row.uri]
+    if row.type not in (ELEMENT, ATTRIBUTE, DECLARATION, LEVEL1_ELEMENT, LEVEL1_ATTRIBUTE):
+        fields += [row.prefix, row.local_name, row.uri]
+    return fields
+
+
+LETTERS = b"ABCDEFGHIJKLMNOPQRSTUVWXYZabcdefghijklmnopqrstuvwxyz"
+DIGITS = b"0123456789"
+
+
+def wrong_names(tree, row):
+    """4: an empty local name in 1, 2, 257, 258; a bad byte in a prefix or local name."""
+    if row.type in ELEMENTS + ATTRIBUTES and row.local_name.length == 0:
+        return True
+    level1 = row.type in (LEVEL1_ELEMENT, LEVEL1_ATTRIBUTE)
+    return not good_name(row.prefix.text, level1) or not good_name(row.local_name.text, level1)
+
+
+def good_name(name, level1):
+    """Good: ASCII letters, digits, `-` `.` `_`, bytes from 128; the first is no digit, `-` or `.`. In 257 and 258 `:` is
+    good everywhere."""
+    for at, byte in enumerate(name):
+        if not (byte in LETTERS or byte in DIGITS or byte in b"-._" or byte >= 128 or (level1 and byte in b":")):
+            return False
+        if at == 0 and (byte in DIGITS or byte in b"-."):
+            return False
+    return True
+
+
+def wrong_namespace(tree, row):
+    """5: in type 1 or 2: prefix without URI; URI is XMLNS-URI; prefix `xmlns`; prefix `xml` with another URI; in type 1,
+    XML-URI without prefix `xml`; in type 2, no prefix and local name `xmlns`."""
+    if row.type not in (ELEMENT, ATTRIBUTE):
+        return False
+    prefix, uri = row.prefix.text, row.uri.text
+    return (prefix != b"" and uri == b""
+            or uri == XMLNS_URI
+            or prefix == b"xmlns"
+            or prefix == b"xml" and uri != XML_URI
+            or row.type == ELEMENT and uri == XML_URI and prefix != b"xml"
+            or row.type == ATTRIBUTE and prefix == b"" and row.local_name.text == b"xmlns")
+
+
+def wrong_declaration(tree, row):
+    """6: declaration of `xmlns`; of `xml` with a value other than XML-URI; of anything else with XML-URI; of anything with
+    XMLNS-URI; of a non-empty prefix with empty value."""
+    if row.type != DECLARATION:
+        return False
+    prefix, value = row.local_name.text, row.value.text
+    return (prefix == b"xmlns"
+            or prefix == b"xml" and value != XML_URI
+            or prefix != b"xml" and value == XML_URI
+            or value == XMLNS_URI
+            or prefix != b"" and value == b"")
+
+
+def wrong_double(tree, row):
+    """7: an earlier row with the same owner (not NONE): both 13 with one declared prefix; both 2 with one URI and local
+    name; both 258 with one name."""
+    if row.parent == NONE or row.type not in (DECLARATION, ATTRIBUTE, LEVEL1_ATTRIBUTE):
+        return False
+    return any(other.number < row.number and other.type == row.type
+               and other.local_name.text == row.local_name.text
+               and (row.type != ATTRIBUTE or other.uri.text == row.uri.text)
+               for other in tree.under[row.parent])
+
+
+ROW_REFUSALS = ((2, wrong_structure), (3, wrong_fields), (4, wrong_names), (5, wrong_namespace),
+                (6, wrong_declaration), (7, wrong_double))
+
+
+def check(table, pool):
+    """Order: 1; then rows ascending, each tried for 2 to 7 in that order. Numbers 2 to 7 name their row; the others give
+    row 0."""
+    return checked(tuple(table), bytes(pool))[0]
+
+
+@lru_cache(maxsize=1)
+def checked(table, pool):
+    """What the check answers, and the tree where it accepts. Every entry point runs the whole check itself."""
+    if wrong_size(table, pool):
+        return (1, 0), None
+    tree = Tree(table, pool)
+    for row in tree.rows:
+        for number, wrong in ROW_REFUSALS:
+            if wrong(tree, row):
+                return (number, row.number), None
+    return (0, 0), tree
+
+
+# Lookups.
+
+def start_element(tree, row):
+    """Type 1 or 257, itself; 2, 258, 13, the owner; 9, its element child; 6, 10, 11, 12, none; all others, the nearest
+    ancestor element."""
+    if row.type in ELEMENTS:
+        return row
+    if row.type in (ATTRIBUTE, LEVEL1_ATTRIBUTE, DECLARATION):
+        return tree.parent_of(row)
+    if row.type == DOCUMENT:
+        return next((child for child in tree.under.get(row.number, ()) if child.type in ELEMENTS), None)
+    if row.type in (ENTITY, DOCUMENT_TYPE, FRAGMENT, NOTATION):
+        return None
+    return ancestor_element(tree, row)
+
+
+def ancestor_element(tree, row):
+    """Climbs parents and passes over entity references."""
+    row = tree.parent_of(row)
+    while row is not None and row.type not in ELEMENTS:
+        row = tree.parent_of(row)
+    return row
+
+
+def outward(tree, element):
+    """The element and its ancestor elements, the nearest first; none for no element."""
+    while element is not None:
+        yield element
+        element = ancestor_element(tree, element)
+
+
+def has_own_name(element):
+    """A type 257 element's own name is skipped in all lookups; its declarations count."""
+    return element.type == ELEMENT
+
+
+def declaration_of(tree, element, prefix):
+    return next((row for row in tree.declarations(element) if row.local_name.text == prefix), None)
+
+
+def uri_from(tree, start, prefix):
+    """At each element outward: if it has a URI and its prefix equals the query, that URI. Else if it has a declaration of
+    that prefix, its value, or nothing when the value is empty. Else the next ancestor element."""
+    for element in outward(tree, start):
+        if has_own_name(element) and element.uri.text != b"" and element.prefix.text == prefix:
+            return element.uri
+        declaration = declaration_of(tree, element, prefix)
+        if declaration is not None:
+            return declaration.value
+    return EMPTY
+
+
+def means_at(tree, start, prefix, uri):
+    """The URI of that prefix, looked up from the start element, is the query."""
+    return uri_from(tree, start, prefix).text == uri
+
+
+def prefix_from(tree, start, uri):
+    """Empty query: nothing. At each element outward: its own prefix if its URI matches, it has a prefix, and the URI of
+    that prefix, looked up from the start element, is the query. Then its declarations of non-empty prefixes in row order
+    with value equal to the query and the same condition."""
+    if uri == b"":
+        return EMPTY
+    for element in outward(tree, start):
+        if (has_own_name(element) and element.uri.text == uri and element.prefix.text != b""
+                and means_at(tree, start, element.prefix.text, uri)):
+            return element.prefix
+        for declaration in tree.declarations(element):
+            prefix = declaration.local_name
+            if prefix.text != b"" and declaration.value.text == uri and means_at(tree, start, prefix.text, uri):
+                return prefix
+    return EMPTY
+
+
+def default_from(tree, start, uri):
+    """At each element outward: with no prefix, yes exactly if its URI equals the query. Else with a default declaration,
+    yes exactly if its value equals the query. Else outward; at the end, no. Empty equals empty."""
+    for element in outward(tree, start):
+        if has_own_name(element) and element.prefix.text == b"":
+            return element.uri.text == uri
+        declaration = declaration_of(tree, element, b"")
+        if declaration is not None:
+            return declaration.value.text == uri
+    return False
+
+
+class InScope(NamedTuple):
+    kind: str
+    field: Field
+
+
+NOTHING = InScope("none", EMPTY)
+BUILT_IN_URIS = {b"xml": InScope("xml", Field(0, 0, XML_URI)), b"xmlns": InScope("xmlns", Field(0, 0, XMLNS_URI))}
+BUILT_IN_PREFIXES = {XML_URI: InScope("xml", Field(0, 0, b"xml")), XMLNS_URI: InScope("xmlns", Field(0, 0, b"xmlns"))}
+
+
+def scope_uri(tree, start, prefix):
+    """`xml` and `xmlns` are built in and answer XML-URI and XMLNS-URI. Otherwise the nearest declaration of that prefix
+    decides, elements' own names are not looked at; an empty value or no declaration means none."""
+    if start is None:
+        return NOTHING
+    if prefix in BUILT_IN_URIS:
+        return BUILT_IN_URIS[prefix]
+    for element in outward(tree, start):
+        declaration = declaration_of(tree, element, prefix)
+        if declaration is not None:
+            return NOTHING if declaration.value.text == b"" else InScope("place", declaration.value)
+    return NOTHING
+
+
+def in_scope_as(tree, start, prefix, uri):
+    """That prefix has that in-scope URI at the start."""
+    return scope_uri(tree, start, prefix).field.text == uri
+
+
+def scope_prefix(tree, start, uri):
+    """Only non-empty prefixes. Empty query: none. XML-URI gives built-in `xml`, XMLNS-URI built-in `xmlns`. Otherwise
+    outward, in row order, the first declaration with that value whose prefix has that in-scope URI at the start."""
+    if start is None or uri == b"":
+        return NOTHING
+    if uri in BUILT_IN_PREFIXES:
+        return BUILT_IN_PREFIXES[uri]
+    for element in outward(tree, start):
+        for declaration in tree.declarations(element):
+            prefix = declaration.local_name
+            if prefix.text != b"" and declaration.value.text == uri and in_scope_as(tree, start, prefix.text, uri):
+                return InScope("place", prefix)
+    return NOTHING
+
+
+def asked(table, pool, row, query, question):
+    """The refusal, with row; or no refusal, and what the question answers at the row's start element. 8: lookup from a
+    row that isn't in the table."""
+    refusal, tree = checked(tuple(table), bytes(pool))
+    if tree is None:
+        return refusal, None
+    if row >= len(tree.rows):
+        return (8, 0), None
+    return (0, 0), question(tree, start_element(tree, tree.rows[row]), query)
+
+
+def uri_of_prefix(table, pool, row, query):
+    refusal, found = asked(table, pool, row, query, uri_from)
+    return (*refusal, found.offset, found.length) if found else (*refusal, 0, 0)
+
+
+def prefix_of_uri(table, pool, row, query):
+    refusal, found = asked(table, pool, row, query, prefix_from)
+    return (*refusal, found.offset, found.length) if found else (*refusal, 0, 0)
+
+
+def is_default(table, pool, row, query):
+    refusal, yes = asked(table, pool, row, query, default_from)
+    return (*refusal, bool(yes))
+
+
+def in_scope_uri(table, pool, row, query):
+    refusal, found = asked(table, pool, row, query, scope_uri)
+    found = found or NOTHING
+    return (*refusal, found.kind, found.field.offset, found.field.length)
+
+
+def in_scope_prefix(table, pool, row, query):
+    refusal, found = asked(table, pool, row, query, scope_prefix)
+    found = found or NOTHING
+    return (*refusal, found.kind, found.field.offset, found.field.length)
+
+
+# Normalization.
+
+def normalize(table, pool, out_words, out_bytes):
+    """Input table and pool are read; output table and pool are written. The rest of both output buffers is zero. Success
+    answers the result's row count and pool length; a refusal answers 0 for both."""
+    table, pool = tuple(table), bytes(pool)
+    number, row = check(table, pool)
+    tree = None
+    if number == 0:
+        tree = Tree(table, pool)
+        number, row = first_level1(tree)
+    if number == 0:
+        for element in [row for row in tree.rows if row.type == ELEMENT]:
+            repair_element(tree, element)
+            for attribute in tree.owned(element, ATTRIBUTE):
+                if attribute.uri.text != b"":
+                    repair_attribute(tree, element, attribute)
+        number, row = too_much(tree, out_words, out_bytes)
+    if number != 0:
+        return number, row, 0, 0, (0,) * out_words, bytes(out_bytes)
+    words = [word for row in tree.rows for word in row.words()]
+    return (0, 0, len(tree.rows), len(tree.pool),
+            tuple(words) + (0,) * (out_words - len(words)), tree.pool + bytes(out_bytes - len(tree.pool)))
+
+
+def first_level1(tree):
+    """9: normalization of a table with a type 257 or 258 row; the lowest such row."""
+    for row in tree.rows:
+        if row.type in (LEVEL1_ELEMENT, LEVEL1_ATTRIBUTE):
+            return 9, row.number
+    return 0, 0
+
+
+def too_much(tree, out_words, out_bytes):
+    """10: the result needs more than 1,024 rows, or more than the whole rows of the output table. 11: the result needs
+    more than 32,768 pool bytes, or more than the output pool."""
+    if len(tree.rows) > MOST_ROWS or len(tree.rows) > out_words // WIDTH:
+        return 10, 0
+    if len(tree.pool) > MOST_BYTES or len(tree.pool) > out_bytes:
+        return 11, 0
+    return 0, 0
+
+
+def repair_element(tree, element):
+    """1. Element with a URI: if the in-scope URI of its prefix (or default) differs, set its own declaration of that
+    prefix to its URI, or append one. 2. Element without a URI: if the in-scope default isn't none, set its own default
+    declaration to empty, or append one."""
+    if element.uri.text != b"":
+        if not in_scope_as(tree, element, element.prefix.text, element.uri.text):
+            declare(tree, element, element.prefix, element.uri)
+    elif scope_uri(tree, element, b"") != NOTHING:
+        declare(tree, element, EMPTY, EMPTY)
+
+
+def declare(tree, element, prefix, value):
+    """Set its own declaration of that prefix, or append one."""
+    declaration = declaration_of(tree, element, prefix.text)
+    if declaration is not None:
+        declaration.value = value
+    else:
+        append(tree, element, prefix, value)
+
+
+def append(tree, element, prefix, value):
+    """New rows go at the end, type 13, parent the element, prefix and URI fields 0. References are copied."""
+    tree.add(Row(len(tree.rows), DECLARATION, element.number, EMPTY, prefix, EMPTY, value))
+
+
+def repair_attribute(tree, element, attribute):
+    """3. If it has a prefix and the in-scope URI of that is its URI, nothing. Else if an in-scope prefix of the URI
+    exists, take that. Else if it has a prefix, and that has no in-scope URI, append a declaration of it. Else take `NS`
+    and the least k from 1 that is not declared in scope, and append its declaration."""
+    prefix, uri = attribute.prefix, attribute.uri
+    if prefix.text != b"" and in_scope_as(tree, element, prefix.text, uri.text):
+        return
+    found = scope_prefix(tree, element, uri.text)
+    if found.kind == "place":
+        attribute.prefix = found.field
+    elif found != NOTHING:
+        attribute.prefix = in_pool(tree, found.field.text)
+    elif prefix.text != b"" and scope_uri(tree, element, prefix.text) == NOTHING:
+        append(tree, element, prefix, uri)
+    else:
+        attribute.prefix = in_pool(tree, free_prefix(tree, element))
+        append(tree, element, attribute.prefix, uri)
+
+
+def free_prefix(tree, element):
+    """`NS` and the least k from 1 (decimal, no leading zero) that is not declared in scope."""
+    declared = {row.local_name.text for outer in outward(tree, element) for row in tree.declarations(outer)}
+    return next(name for name in (b"NS%d" % k for k in count(1)) if name not in declared)
+
+
+def in_pool(tree, text):
+    """Each time step 3 takes built-in `xml` or makes an `NS` prefix, its bytes are appended to the pool once."""
+    field = Field(len(tree.pool), len(text), text)
+    tree.pool += text
+    return field
