@@ -14,17 +14,6 @@ const FIRST_ROW: usize = 5;
 
 // The five lookups from each row.
 pub fn case(line: &[u8], table: &[u32], pool: &[u8]) {
-    each_row(line, table, pool, part(line, 1), part(line, 2));
-}
-
-// The parts of the pool that the first two lookups find from a row.
-pub fn part_case(line: &[u8], table: &[u32], pool: &[u8]) {
-    let name = part(line, FIRST_ROW);
-    io::write_all(1, name);
-    part_lookups(table, pool, numbered(name), part(line, 1), part(line, 2));
-}
-
-fn each_row(line: &[u8], table: &[u32], pool: &[u8], prefix: &[u8], uri: &[u8]) {
     let mut number: usize = FIRST_ROW;
     while number < line.len() {
         let name = part(line, number);
@@ -32,9 +21,25 @@ fn each_row(line: &[u8], table: &[u32], pool: &[u8], prefix: &[u8], uri: &[u8]) 
             return;
         }
         io::write_all(1, name);
-        lookups(table, pool, numbered(name), prefix, uri);
+        lookups(table, pool, numbered(name), line);
         number += 1;
     }
+}
+
+// The parts of the pool that the first two lookups find from a row.
+pub fn part_case(line: &[u8], table: &[u32], pool: &[u8]) {
+    let name = part(line, FIRST_ROW);
+    let row = numbered(name);
+    io::write_all(1, name);
+    quote(
+        texts::URI_PART,
+        lookups::uri_part(table, pool, row, part(line, 1)),
+    );
+    quote(
+        texts::PREFIX_PART,
+        lookups::prefix_part(table, pool, row, part(line, 2)),
+    );
+    texts::write(texts::PART_END);
 }
 
 // The row whose number a name starts with.
@@ -42,44 +47,30 @@ fn numbered(name: &[u8]) -> Row {
     Row(words::number(piece(name, 0, b' ')))
 }
 
-fn lookups(table: &[u32], pool: &[u8], row: Row, prefix: &[u8], uri: &[u8]) {
-    uri_of_prefix(table, pool, row, prefix);
-    prefix_of_uri(table, pool, row, uri);
+fn lookups(table: &[u32], pool: &[u8], row: Row, line: &[u8]) {
+    let prefix = part(line, 1);
+    let uri = part(line, 2);
+    by_names(table, pool, row, prefix, uri);
     is_default(table, pool, row, uri);
-    in_scope_uri(table, pool, row, prefix);
-    in_scope_prefix(table, pool, row, uri);
+    by_declarations(table, pool, row, prefix, uri);
     texts::write(texts::LINE);
 }
 
-fn uri_of_prefix(table: &[u32], pool: &[u8], row: Row, prefix: &[u8]) {
-    let given = answers::located(lookups::uri_of_prefix(table, pool, row, prefix));
-    found(texts::URI, given, texts::NOTHING);
+// The lookups that see elements' own names.
+fn by_names(table: &[u32], pool: &[u8], row: Row, prefix: &[u8], uri: &[u8]) {
+    let of_prefix = answers::located(lookups::uri_of_prefix(table, pool, row, prefix));
+    found(texts::URI, of_prefix, texts::NOTHING);
+    let of_uri = answers::located(lookups::prefix_of_uri(table, pool, row, uri));
+    found(texts::PREFIX, of_uri, texts::NOTHING);
 }
 
-fn prefix_of_uri(table: &[u32], pool: &[u8], row: Row, uri: &[u8]) {
-    let given = answers::located(lookups::prefix_of_uri(table, pool, row, uri));
-    found(texts::PREFIX, given, texts::NOTHING);
+fn by_declarations(table: &[u32], pool: &[u8], row: Row, prefix: &[u8], uri: &[u8]) {
+    let of_prefix = answers::in_scope(lookups::in_scope_uri(table, pool, row, prefix));
+    found(texts::IN_SCOPE_URI, of_prefix, texts::NONE);
+    let of_uri = answers::in_scope(lookups::in_scope_prefix(table, pool, row, uri));
+    found(texts::PREFIX, of_uri, texts::NONE);
 }
 
 fn is_default(table: &[u32], pool: &[u8], row: Row, uri: &[u8]) {
     tested(answers::tested(lookups::is_default(table, pool, row, uri)));
-}
-
-fn in_scope_uri(table: &[u32], pool: &[u8], row: Row, prefix: &[u8]) {
-    let given = answers::in_scope(lookups::in_scope_uri(table, pool, row, prefix));
-    found(texts::IN_SCOPE_URI, given, texts::NONE);
-}
-
-fn in_scope_prefix(table: &[u32], pool: &[u8], row: Row, uri: &[u8]) {
-    let given = answers::in_scope(lookups::in_scope_prefix(table, pool, row, uri));
-    found(texts::PREFIX, given, texts::NONE);
-}
-
-fn part_lookups(table: &[u32], pool: &[u8], row: Row, prefix: &[u8], uri: &[u8]) {
-    quote(texts::URI_PART, lookups::uri_part(table, pool, row, prefix));
-    quote(
-        texts::PREFIX_PART,
-        lookups::prefix_part(table, pool, row, uri),
-    );
-    texts::write(texts::PART_END);
 }

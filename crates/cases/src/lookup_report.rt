@@ -1,10 +1,8 @@
 // What the lookups answer, as text.
 use crate::texts;
-use crate::texts::say;
 use answers::Found;
 use answers::Number;
 use answers::Test;
-use rules::Place;
 
 // A refusal, a place, a built-in, or nothing, after a text.
 pub fn found(text: usize, given: Found, nothing: usize) {
@@ -14,7 +12,10 @@ pub fn found(text: usize, given: Found, nothing: usize) {
         return;
     }
     let place = given.place;
-    if placed(place) {
+    if place.length > 0 {
+        let offset = place.offset;
+        io::print_decimal(1, offset.0 as u64);
+        texts::say(texts::SPACE, place.length as usize);
         return;
     }
     built_in(given.built_in, nothing);
@@ -36,17 +37,6 @@ fn refused(given: Number) -> bool {
         return false;
     }
     texts::refusal(texts::REFUSED, texts::REFUSED_ROW, given);
-    true
-}
-
-// Prints a place, if something stands there.
-fn placed(place: Place) -> bool {
-    if place.length == 0 {
-        return false;
-    }
-    let offset = place.offset;
-    io::print_decimal(1, offset.0 as u64);
-    say(texts::SPACE, place.length as usize);
     true
 }
 

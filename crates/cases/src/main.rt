@@ -10,6 +10,8 @@ mod parts;
 mod texts;
 mod words;
 
+use bytes::scan::find;
+
 fn main() {
     let mut space = io::large_buffer();
     let count = io::read_full(0, &mut space);
@@ -19,46 +21,38 @@ fn main() {
 fn each_line(text: &[u8]) {
     let mut from: usize = 0;
     while from < text.len() {
-        let end = parts::end(text, from, b'\n');
-        case(&text[from..end]);
-        from = end + 1;
+        let to = find(text, from, text.len(), b'\n');
+        case(&text[from..to]);
+        from = to + 1;
     }
 }
 
 fn case(line: &[u8]) {
     let mut words: [u32; words::MOST] = [0; words::MOST];
     let count = words::read(parts::part(line, 3), &mut words);
+    with_table(line, &words[..count]);
+}
+
+fn with_table(line: &[u8], table: &[u32]) {
     let plenty: [u8; parts::MOST] = [b'a'; parts::MOST];
-    run(
-        line,
-        &words[..count],
-        parts::pool(parts::part(line, 4), &plenty),
-    );
+    run(line, table, parts::pool(parts::part(line, 4), &plenty));
 }
 
 fn run(line: &[u8], table: &[u32], pool: &[u8]) {
-    match operation(line) {
+    match operation(parts::part(line, 0)) {
         0 => check_cases::case(line, table, pool),
         1 => lookup_cases::case(line, table, pool),
         2 => lookup_cases::part_case(line, table, pool),
         3 => normalize_cases::case(line, table, pool),
-        _ => heading(line),
+        _ => texts::line(line),
     }
 }
 
-fn heading(line: &[u8]) {
-    io::write_all(1, line);
-    texts::write(texts::LINE);
-}
-
-// The number of the operation that a line names; 4 for none.
-fn operation(line: &[u8]) -> usize {
+// The number of an operation among these four; 4 for any other word.
+fn operation(word: &[u8]) -> usize {
     let mut number: usize = 0;
     while number < 4 {
-        if names::same(
-            parts::part(line, 0),
-            parts::part(b"check|lookups|parts|normalize", number),
-        ) {
+        if names::same(word, parts::part(b"check|lookups|parts|normalize", number)) {
             return number;
         }
         number += 1;

@@ -1,11 +1,9 @@
 // Normalization. A line gives the case's name, and the words of the output table and the bytes of the output pool.
 ghost use Prim.Native.Nat.{_≤_};
-use crate::normalize_report::pool_after;
-use crate::normalize_report::rows_after;
-use crate::normalize_report::sizes;
+use crate::normalize_report::normalized;
 use crate::parts;
+use crate::texts;
 use crate::words;
-use answers::Sizes;
 
 // The outputs are not zero before.
 pub fn case(line: &[u8], table: &[u32], pool: &[u8]) {
@@ -40,12 +38,16 @@ fn least(numbers: &[u8], index: usize, most: usize) -> usize
 }
 
 fn run(table: &[u32], pool: &[u8], out_table: &mut [u32], out_pool: &mut [u8]) {
-    let given = normalized(table, pool, out_table, out_pool);
-    sizes(given);
-    pool_after(pool, out_pool, given);
-    rows_after(table, out_table, out_pool, given);
-}
-
-fn normalized(table: &[u32], pool: &[u8], out_table: &mut [u32], out_pool: &mut [u8]) -> Sizes {
-    answers::normalized(normalizer::normalize(table, pool, out_table, out_pool))
+    let given = answers::normalized(normalizer::normalize(table, pool, out_table, out_pool));
+    let number = given.number;
+    texts::refusal(texts::REFUSAL, texts::ROW, number);
+    normalized(
+        table,
+        pool,
+        out_table,
+        given.rows,
+        out_pool,
+        given.bytes,
+        number.number,
+    );
 }

@@ -5,35 +5,44 @@ use crate::parts::between;
 use crate::texts;
 use crate::texts::either;
 use crate::texts::say;
-use answers::Sizes;
 
-pub fn sizes(given: Sizes) {
-    let number = given.number;
-    texts::refusal(texts::REFUSAL, texts::ROW, number);
-    say(texts::ROWS, given.rows);
-    say(texts::BYTES, given.bytes);
+// A result of so many rows and bytes, or a refusal of that number.
+pub fn normalized(
+    table: &[u32],
+    pool: &[u8],
+    out_table: &[u32],
+    rows: usize,
+    out_pool: &[u8],
+    bytes: usize,
+    number: u32,
+) {
+    say(texts::ROWS, rows);
+    say(texts::BYTES, bytes);
     texts::write(texts::POOL);
+    if number == 0 {
+        pool_after(pool, out_pool, bytes);
+    }
+    rows_after(table, out_table, rows, out_pool, bytes);
 }
 
-// Unless it is refused: whether the result's pool starts with the pool, and the bytes that follow.
-pub fn pool_after(pool: &[u8], out_pool: &[u8], given: Sizes) {
-    let number = given.number;
-    if number.number > 0 {
-        return;
-    }
+// Whether the result's pool starts with the pool, and the bytes that follow.
+fn pool_after(pool: &[u8], out_pool: &[u8], bytes: usize) {
     let kept = names::same(between(out_pool, 0, pool.len()), pool);
     either(kept, texts::KEPT, texts::NOT_KEPT);
-    io::write_all(1, between(out_pool, pool.len(), given.bytes));
+    io::write_all(1, between(out_pool, pool.len(), bytes));
     texts::write(texts::APPENDED);
 }
 
 // Whether both outputs are zero after the result, all of them for a refusal; and the rows of the result that the table
 // does not have.
-pub fn rows_after(table: &[u32], out_table: &[u32], out_pool: &[u8], given: Sizes) {
-    let end = words_of(given.rows);
+fn rows_after(table: &[u32], out_table: &[u32], rows: usize, out_pool: &[u8], bytes: usize) {
+    if rows > rules::MOST_ROWS {
+        return;
+    }
+    let end = rows * rules::WIDTH;
     let cleared = same_words(&table[..0], out_table, end, out_table.len());
     either(
-        cleared & zero_bytes(out_pool, given.bytes),
+        cleared & zero_bytes(out_pool, bytes),
         texts::ZERO,
         texts::NOT_ZERO,
     );
@@ -50,16 +59,6 @@ fn changed_rows(table: &[u32], out_table: &[u32], end: usize)
         }
         start += rules::WIDTH;
     }
-}
-
-// The words of so many rows; a result has no more than a table may have.
-fn words_of(rows: usize) -> usize
-    ensures { λ r. ⌜ r ≤ MOST-ROWS * WIDTH ⌝ }
-{
-    if rows < rules::MOST_ROWS {
-        return rows * rules::WIDTH;
-    }
-    rules::MOST_ROWS * rules::WIDTH
 }
 
 // The words from one index to another are equal in both tables; past its end, a table has zeros.

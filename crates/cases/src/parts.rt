@@ -1,7 +1,6 @@
 // The parts of a line, with `|` between two of them.
-ghost use Prim.Native.Nat.{_≤_};
-ghost use lib.ListN.{length};
 use crate::words;
+use bytes::scan::find;
 
 // More bytes than a pool may have.
 pub const MOST: usize = rules::MOST_BYTES + 12;
@@ -11,19 +10,19 @@ pub fn part(line: &[u8], number: usize) -> &[u8] {
     piece(line, number, b'|')
 }
 
-// The piece of that number of a text, with the byte between two of them.
+// The piece of that number of a text, with that byte between two of them.
 pub fn piece(text: &[u8], number: usize, between: u8) -> &[u8] {
     let mut from: usize = 0;
     let mut left = number;
     while left > 0 {
-        let at = end(text, from, between);
+        let at = find(text, from, text.len(), between);
         if at >= text.len() {
-            return &text[at..];
+            return &text[..0];
         }
         from = at + 1;
         left -= 1;
     }
-    let to = end(text, from, between);
+    let to = find(text, from, text.len(), between);
     &text[from..to]
 }
 
@@ -47,19 +46,4 @@ pub fn between(bytes: &[u8], from: usize, to: usize) -> &[u8] {
         return &bytes[..0];
     }
     &bytes[from..to]
-}
-
-// Where the text from an index on stops: at the next byte of that kind, or at its end.
-pub fn end(text: &[u8], from: usize, stop: u8) -> usize
-    requires { ⌜ from ≤ length (now text) ⌝ }
-    ensures { λ r. ⌜ (from ≤ r) × (r ≤ length (now (text .entry))) ⌝ }
-{
-    let mut i = from;
-    while i < text.len() {
-        if text[i] == stop {
-            return i;
-        }
-        i += 1;
-    }
-    i
 }

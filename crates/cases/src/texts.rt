@@ -1,13 +1,16 @@
-// The texts of the report, each by its number: one byte string holds them all, with `|` between two of them.
+// The texts of the report, each by its number. A byte string in a function costs its check more than a number, so that one
+// string holds them all, in the order of their numbers and with `|` between two of them.
 use crate::parts::part;
 use answers::Number;
 
+// Of every operation.
 pub const REFUSAL: usize = 0;
 
 pub const ROW: usize = 1;
 
 pub const LINE: usize = 2;
 
+// Of the lookups.
 pub const URI: usize = 3;
 
 pub const PREFIX: usize = 4;
@@ -34,12 +37,14 @@ pub const YES: usize = 14;
 
 pub const NO: usize = 15;
 
+// Of the parts of the pool.
 pub const URI_PART: usize = 16;
 
 pub const PREFIX_PART: usize = 17;
 
 pub const PART_END: usize = 18;
 
+// Of normalization.
 pub const ROWS: usize = 19;
 
 pub const BYTES: usize = 20;
@@ -69,6 +74,12 @@ pub fn write(text: usize) {
             text,
         ),
     );
+}
+
+// Bytes, as a line.
+pub fn line(bytes: &[u8]) {
+    io::write_all(1, bytes);
+    write(LINE);
 }
 
 // A text, and a number after it.

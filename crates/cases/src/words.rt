@@ -3,7 +3,7 @@
 // grows from row to row as it did between the two rows before.
 ghost use Prim.Native.Nat.{_≤_};
 ghost use lib.ListN.{length};
-use crate::parts::end;
+use bytes::scan::find;
 
 // The words of two rows more than a table may have.
 pub const MOST: usize = (rules::MOST_ROWS + 2) * rules::WIDTH;
@@ -15,7 +15,7 @@ pub fn read(text: &[u8], out: &mut [u32]) -> usize
     let mut count: usize = 0;
     let mut from: usize = 0;
     while from < text.len() {
-        let to = end(text, from, b' ');
+        let to = find(text, from, text.len(), b' ');
         count = put(&text[from..to], out, count);
         from = to + 1;
     }
@@ -30,34 +30,39 @@ fn put(word: &[u8], out: &mut [u32], count: usize) -> usize
     if word.len() == 0 {
         return count;
     }
+    let given = number(word);
     if word[0] == b'*' {
-        return go_on(out, count, number(word) as usize);
+        return go_on(out, count, given);
     }
     if count < out.len() {
-        out[count] = number(word);
+        out[count] = given;
         return count + 1;
     }
     count
 }
 
-fn go_on(out: &mut [u32], count: usize, rows: usize) -> usize
+fn go_on(out: &mut [u32], count: usize, rows: u32) -> usize
     requires { ⌜ count ≤ length (now out) ⌝ }
     ensures { λ r. ⌜ r ≤ length (now (out .exit)) ⌝ }
 {
     if count < 2 * rules::WIDTH {
         return count;
     }
+    let end = rows as usize * rules::WIDTH;
     let mut at = count;
     while at < out.len() {
-        if at / rules::WIDTH >= rows {
+        if at >= end {
             return at;
         }
-        let last = out[at - rules::WIDTH];
-        let step = std::num::wrapping_sub_u32(last, out[at - 2 * rules::WIDTH]);
-        out[at] = std::num::wrapping_add_u32(last, step);
+        out[at] = next(out[at - rules::WIDTH], out[at - 2 * rules::WIDTH]);
         at += 1;
     }
     at
+}
+
+// The word after two others: it differs from the last as that does from the one before.
+fn next(last: u32, before: u32) -> u32 {
+    std::num::wrapping_add_u32(last, std::num::wrapping_sub_u32(last, before))
 }
 
 // The number that the digits of a text make; `-` makes NONE, and so does a digit too many.

@@ -18,7 +18,7 @@ use rules::Row;
 use rules::Tested;
 
 // How a lookup begins: along so many elements of the path, or with a refusal.
-pub enum Begun {
+enum Begun {
     Along(usize),
     Refused(Refusal),
 }

@@ -18,12 +18,13 @@ leads-to-requires c κs = search needs
 returns : tie.Need-returns
 returns c =
     let s = c .before .before .before .before .before .before .before .before .before .before in
-    c .leads-to .ensures ∙ names-prefix-by (s .args .table .now) (s .args .pool .now) (s .args .element .0) _ (c .before .before .before .kind .ensures) (s .args .path .now) (s .args .uri .now) _ (c .before .before .field-is .ensures) (cc)
+    c .leads-to .ensures
+    ∙ names-prefix-by (s .args .table .now) (s .args .pool .now) (s .args .element .0) _ (c .before .before .before .kind .ensures) (s .args .path .now) (s .args .uri .now) _ (c .before .before .field-is .ensures) (c .before .if1 .taken)
 
 returns-2 : tie.Need-returns-2
 returns-2 c =
     let s = c .before .before .before .before .before .before .before .before .before in
-    names-prefix-other (s .args .table .now) (s .args .pool .now) (s .args .element .0) _ (c .before .before .kind .ensures) (s .args .path .now) (s .args .uri .now) _ (c .before .field-is .ensures) (cc)
+    names-prefix-other (s .args .table .now) (s .args .pool .now) (s .args .element .0) _ (c .before .before .kind .ensures) (s .args .path .now) (s .args .uri .now) _ (c .before .field-is .ensures) (c .if1 .left)
 
 pub names-prefix-spec : {M : Type 1} → statement M
 names-prefix-spec =

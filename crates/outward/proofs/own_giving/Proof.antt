@@ -2,6 +2,7 @@
 -- Assumes nothing.
 use Prim.Native.Nat.{_-_}
 use native.Mathlib.Omega.{arith}
+use mathlib.Core.Path.{sym, _∙_}
 use borrow.Author.Needs.{needs}
 use borrow.Author.Tests.{ltb-true, ltb-false}
 use Rattle.rules.specs.Table.{nodes, rowCount}
@@ -26,26 +27,30 @@ has-row-requires : tie.Need-has-row-requires Inv-loop μ-loop
 has-row-requires c κs = search needs
 
 gives-prefix-requires : tie.Need-gives-prefix-requires Inv-loop μ-loop
-gives-prefix-requires c κs = let s = c .before .before .before .before .before .before .before .before .before .before in (s .pre .0, ltb-true _ _ (cc))
+gives-prefix-requires c κs = let s = c .before .before .before .before .before .before .before .before .before .before in (s .pre .0, ltb-true _ _ (sym (c .before .has-row .ensures) ∙ c .if1 .taken))
 
 returns : tie.Need-returns Inv-loop μ-loop
-returns c = let s = c .before .before .before .before .before .before .before .before .before .before .before .before in walking-hit _ _ _ _ (s .pre .0 .ready) _ (s .pre .1) _ _ (c .before .before .before .before .loop .inv) (ltb-true _ _ (cc)) (cc)
+returns c =
+    let s = c .before .before .before .before .before .before .before .before .before .before .before .before in
+    walking-hit _ _ _ _ (s .pre .0 .ready) _ (s .pre .1) _ _ (c .before .before .before .before .loop .inv) (ltb-true _ _ (sym (c .before .before .before .has-row .ensures) ∙ c .before .before .if1 .taken)) (sym (c .before .gives-prefix .ensures) ∙ c .if2 .taken)
 
 linked-requires-2 : tie.Need-linked-requires-2 Inv-loop μ-loop
-linked-requires-2 c κs = let s = c .before .before .before .before .before .before .before .before .before .before .before .before in walking-room _ _ _ _ (s .pre .0 .ready) _ (s .pre .1) _ _ (c .before .before .before .before .loop .inv) (ltb-true _ _ (cc))
+linked-requires-2 c κs = let s = c .before .before .before .before .before .before .before .before .before .before .before .before in walking-room _ _ _ _ (s .pre .0 .ready) _ (s .pre .1) _ _ (c .before .before .before .before .loop .inv) (ltb-true _ _ (sym (c .before .before .before .has-row .ensures) ∙ c .before .before .if1 .taken))
 
 loop-less : tie.Need-loop-less Inv-loop μ-loop
 loop-less c =
     let s = c .before .before .before .before .before .before .before .before .before .before .before .before .before in
-    let less = ltb-true (c .before .before .before .before .before .loop .row .0) (rowCount (s .args .table .now)) (cc) in
+    let less = ltb-true _ _ (sym (c .before .before .before .before .has-row .ensures) ∙ c .before .before .before .if1 .taken) in
     let later = walking-falls _ _ _ _ (s .pre .0 .ready) _ (s .pre .1) _ _ (c .before .before .before .before .before .loop .inv) less _ (c .linked2 .ensures) in
-    omega arith
+    omega (arith, less, later)
 
 loop-again : tie.Need-loop-again Inv-loop μ-loop
-loop-again c = let s = c .before .before .before .before .before .before .before .before .before .before .before .before .before in walking-next _ _ _ _ (s .pre .0 .ready) _ (s .pre .1) _ _ (c .before .before .before .before .before .loop .inv) (ltb-true _ _ (cc)) (cc) _ (c .linked2 .ensures)
+loop-again c =
+    let s = c .before .before .before .before .before .before .before .before .before .before .before .before .before in
+    walking-next _ _ _ _ (s .pre .0 .ready) _ (s .pre .1) _ _ (c .before .before .before .before .before .loop .inv) (ltb-true _ _ (sym (c .before .before .before .before .has-row .ensures) ∙ c .before .before .before .if1 .taken)) (sym (c .before .before .gives-prefix .ensures) ∙ c .before .if2 .left) _ (c .linked2 .ensures)
 
 returns-2 : tie.Need-returns-2 Inv-loop μ-loop
-returns-2 c = let s = c .before .before .before .before .before .before .before .before .before .before in walking-end _ _ _ _ (s .pre .0 .ready) _ (s .pre .1) _ _ (c .before .before .loop .inv) (ltb-false _ _ (cc))
+returns-2 c = let s = c .before .before .before .before .before .before .before .before .before .before in walking-end _ _ _ _ (s .pre .0 .ready) _ (s .pre .1) _ _ (c .before .before .loop .inv) (ltb-false _ _ (sym (c .before .has-row .ensures) ∙ c .if1 .left))
 
 pub own-giving-spec : {M : Type 1} → statement M
 own-giving-spec =

@@ -3,7 +3,7 @@
 use native.Mathlib.Omega.{arith}
 use borrow.Author.Needs.{needs}
 use borrow.Author.Tests.{ltb-true, ltb-false}
-use mathlib.Core.Path.{ap, _∙_}
+use mathlib.Core.Path.{sym, ap, _∙_}
 use lib.ListN.{length}
 use Rattle.rules.specs.Table.{nodes}
 use Rattle.rules.specs.Lookups.{located}
@@ -26,28 +26,28 @@ loop-holds : tie.Need-loop-holds Inv-loop μ-loop
 loop-holds c = left-first _ _ _ _ _ _ (c .before .before .before .before .before .before .before .pre)
 
 row-at-requires : tie.Need-row-at-requires Inv-loop μ-loop
-row-at-requires c κs = omega arith
+row-at-requires c κs = c .loop-test .taken
 
 names-prefix-requires : tie.Need-names-prefix-requires Inv-loop μ-loop
-names-prefix-requires c κs = (c .before .before .before .before .before .before .before .before .before .before .pre, left-element _ _ _ _ _ _ _ (c .before .before .loop .inv) (omega arith) _ (c .row-at .ensures) .within)
+names-prefix-requires c κs = (c .before .before .before .before .before .before .before .before .before .before .pre, left-element _ _ _ _ _ _ _ (c .before .before .loop .inv) (c .before .loop-test .taken) _ (c .row-at .ensures) .within)
 
 place-requires : tie.Need-place-requires Inv-loop μ-loop
-place-requires c κs = (left-element _ _ _ _ _ _ _ (c .before .before .before .before .loop .inv) (omega arith) _ (c .before .before .row-at .ensures) .within, omega arith)
+place-requires c κs = (left-element _ _ _ _ _ _ _ (c .before .before .before .before .loop .inv) (c .before .before .before .loop-test .taken) _ (c .before .before .row-at .ensures) .within, omega arith)
 
 returns-2 : tie.Need-returns-2 Inv-loop μ-loop
-returns-2 c = ap Located.At (c .place .ensures) ∙ ap located (left-own _ _ _ _ _ _ _ (c .before .before .before .before .before .loop .inv) (omega arith) _ (c .before .before .before .row-at .ensures) (cc) ∙ prefix-asked _ _ _ (c .before .before .before .before .before .before .if1 .left))
+returns-2 c = ap Located.At (c .place .ensures) ∙ ap located (left-own _ _ _ _ _ _ _ (c .before .before .before .before .before .loop .inv) (c .before .before .before .before .loop-test .taken) _ (c .before .before .before .row-at .ensures) (sym (c .before .before .names-prefix .ensures) ∙ c .before .if2 .taken) ∙ prefix-asked _ _ _ (c .before .before .before .before .before .before .if1 .left))
 
 own-giving-requires : tie.Need-own-giving-requires Inv-loop μ-loop
-own-giving-requires c κs = (c .before .before .before .before .before .before .before .before .before .before .before .before .pre, left-element _ _ _ _ _ _ _ (c .before .before .before .before .loop .inv) (omega arith) _ (c .before .before .row-at .ensures))
+own-giving-requires c κs = (c .before .before .before .before .before .before .before .before .before .before .before .before .pre, left-element _ _ _ _ _ _ _ (c .before .before .before .before .loop .inv) (c .before .before .before .loop-test .taken) _ (c .before .before .row-at .ensures))
 
 has-row-requires : tie.Need-has-row-requires Inv-loop μ-loop
 has-row-requires c κs = search needs
 
 place-requires-2 : tie.Need-place-requires-2 Inv-loop μ-loop
-place-requires-2 c κs = (ltb-true _ _ (cc), omega arith)
+place-requires-2 c κs = (ltb-true _ _ (sym (c .before .has-row .ensures) ∙ c .if3 .taken), omega arith)
 
 returns-3 : tie.Need-returns-3 Inv-loop μ-loop
-returns-3 c = ap Located.At (c .place2 .ensures) ∙ ap located (left-declared _ _ _ _ _ _ _ (c .before .before .before .before .before .before .before .before .loop .inv) (omega arith) _ (c .before .before .before .before .before .before .row-at .ensures) (cc) _ (c .before .before .before .own-giving .ensures) (ltb-true _ _ (cc)) ∙ prefix-asked _ _ _ (c .before .before .before .before .before .before .before .before .before .if1 .left))
+returns-3 c = ap Located.At (c .place2 .ensures) ∙ ap located (left-declared _ _ _ _ _ _ _ (c .before .before .before .before .before .before .before .before .loop .inv) (c .before .before .before .before .before .before .before .loop-test .taken) _ (c .before .before .before .before .before .before .row-at .ensures) (sym (c .before .before .before .before .before .names-prefix .ensures) ∙ c .before .before .before .before .if2 .left) _ (c .before .before .before .own-giving .ensures) (ltb-true _ _ (sym (c .before .before .has-row .ensures) ∙ c .before .if3 .taken)) ∙ prefix-asked _ _ _ (c .before .before .before .before .before .before .before .before .before .if1 .left))
 
 sub-left : tie.Need-sub-left Inv-loop μ-loop
 sub-left c = omega arith
@@ -62,7 +62,7 @@ loop-less : tie.Need-loop-less Inv-loop μ-loop
 loop-less c = omega arith
 
 loop-again : tie.Need-loop-again Inv-loop μ-loop
-loop-again c = left-next _ _ _ _ _ _ _ (c .before .before .before .before .before .before .before .before .loop .inv) (omega arith) _ (c .before .before .before .before .before .before .row-at .ensures) (cc) _ (c .before .before .before .own-giving .ensures) (ltb-false _ _ (cc))
+loop-again c = left-next _ _ _ _ _ _ _ (c .before .before .before .before .before .before .before .before .loop .inv) (c .before .before .before .before .before .before .before .loop-test .taken) _ (c .before .before .before .before .before .before .row-at .ensures) (sym (c .before .before .before .before .before .names-prefix .ensures) ∙ c .before .before .before .before .if2 .left) _ (c .before .before .before .own-giving .ensures) (ltb-false _ _ (sym (c .before .before .has-row .ensures) ∙ c .before .if3 .left))
 
 returns-4 : tie.Need-returns-4 Inv-loop μ-loop
 returns-4 c = ap located (left-end _ _ _ _ _ _ _ (c .before .loop .inv) (omega arith) ∙ prefix-asked _ _ _ (c .before .before .if1 .left))

@@ -3,7 +3,7 @@
 use native.Mathlib.Omega.{arith}
 use borrow.Author.Needs.{needs}
 use borrow.Author.Tests.{ltb-true, ltb-false}
-use mathlib.Core.Path.{ap, _∙_}
+use mathlib.Core.Path.{sym, ap, _∙_}
 use lib.ListN.{length}
 use Rattle.rules.specs.Table.{nodes}
 use Rattle.rules.specs.Lookups.{located}
@@ -22,31 +22,32 @@ loop-holds : tie.Need-loop-holds Inv-loop μ-loop
 loop-holds c = left-first _ _ _ _ _ _ (c .before .before .before .before .before .before .pre)
 
 row-at-requires : tie.Need-row-at-requires Inv-loop μ-loop
-row-at-requires c κs = omega arith
+row-at-requires c κs = c .loop-test .taken
 
 names-uri-requires : tie.Need-names-uri-requires Inv-loop μ-loop
-names-uri-requires c κs = left-element _ _ _ _ _ _ _ (c .before .before .loop .inv) (omega arith) _ (c .row-at .ensures) .within
+names-uri-requires c κs = left-element _ _ _ _ _ _ _ (c .before .before .loop .inv) (c .before .loop-test .taken) _ (c .row-at .ensures) .within
 
 own-requires : tie.Need-own-requires Inv-loop μ-loop
-own-requires c κs = (c .before .before .before .loop .inv .along .ready, left-element _ _ _ _ _ _ _ (c .before .before .before .loop .inv) (omega arith) _ (c .before .row-at .ensures))
+own-requires c κs = (c .before .before .before .loop .inv .along .ready, left-element _ _ _ _ _ _ _ (c .before .before .before .loop .inv) (c .before .before .loop-test .taken) _ (c .before .row-at .ensures))
 
 has-row-requires : tie.Need-has-row-requires Inv-loop μ-loop
 has-row-requires c κs = search needs
 
 filled-requires : tie.Need-filled-requires Inv-loop μ-loop
-filled-requires c κs = (left-element _ _ _ _ _ _ _ (c .before .before .before .before .before .before .loop .inv) (omega arith) _ (c .before .before .before .before .row-at .ensures) .within, omega arith)
+filled-requires c κs = (left-element _ _ _ _ _ _ _ (c .before .before .before .before .before .before .loop .inv) (c .before .before .before .before .before .loop-test .taken) _ (c .before .before .before .before .row-at .ensures) .within, omega arith)
 
 returns : tie.Need-returns Inv-loop μ-loop
 returns c =
     let s = c .before .before .before .before .before .before .before .before .before .before .before .before .before .before in
+    let named = (sym (c .before .before .before .before .names-uri .ensures) ∙ c .before .if1 .taken) in
     c .filled .ensures
-    ∙ ap located (named-filled (s .args .table .now) (s .args .pool .now) (c .before .before .before .before .before .row-at .result .0) (s .args .prefix .now) (cc) ∙ left-own _ _ _ _ _ _ _ (c .before .before .before .before .before .before .before .loop .inv) (omega arith) _ (c .before .before .before .before .before .row-at .ensures) (cc))
+    ∙ ap located (named-filled (s .args .table .now) (s .args .pool .now) (c .before .before .before .before .before .row-at .result .0) (s .args .prefix .now) named ∙ left-own _ _ _ _ _ _ _ (c .before .before .before .before .before .before .before .loop .inv) (c .before .before .before .before .before .before .loop-test .taken) _ (c .before .before .before .before .before .row-at .ensures) named)
 
 filled-requires-2 : tie.Need-filled-requires-2 Inv-loop μ-loop
-filled-requires-2 c κs = (ltb-true _ _ (cc), omega arith)
+filled-requires-2 c κs = (ltb-true _ _ (sym (c .before .before .has-row .ensures) ∙ c .if2 .taken), omega arith)
 
 returns-2 : tie.Need-returns-2 Inv-loop μ-loop
-returns-2 c = c .filled2 .ensures ∙ ap located (left-declared _ _ _ _ _ _ _ (c .before .before .before .before .before .before .before .before .loop .inv) (omega arith) _ (c .before .before .before .before .before .before .row-at .ensures) (cc) _ (c .before .before .before .before .own .ensures) (ltb-true _ _ (cc)))
+returns-2 c = c .filled2 .ensures ∙ ap located (left-declared _ _ _ _ _ _ _ (c .before .before .before .before .before .before .before .before .loop .inv) (c .before .before .before .before .before .before .before .loop-test .taken) _ (c .before .before .before .before .before .before .row-at .ensures) (sym (c .before .before .before .before .before .names-uri .ensures) ∙ c .before .before .if1 .left) _ (c .before .before .before .before .own .ensures) (ltb-true _ _ (sym (c .before .before .before .has-row .ensures) ∙ c .before .if2 .taken)))
 
 sub-left : tie.Need-sub-left Inv-loop μ-loop
 sub-left c = omega arith
@@ -61,7 +62,7 @@ loop-less : tie.Need-loop-less Inv-loop μ-loop
 loop-less c = omega arith
 
 loop-again : tie.Need-loop-again Inv-loop μ-loop
-loop-again c = left-next _ _ _ _ _ _ _ (c .before .before .before .before .before .before .before .before .loop .inv) (omega arith) _ (c .before .before .before .before .before .before .row-at .ensures) (cc) _ (c .before .before .before .before .own .ensures) (ltb-false _ _ (cc))
+loop-again c = left-next _ _ _ _ _ _ _ (c .before .before .before .before .before .before .before .before .loop .inv) (c .before .before .before .before .before .before .before .loop-test .taken) _ (c .before .before .before .before .before .before .row-at .ensures) (sym (c .before .before .before .before .before .names-uri .ensures) ∙ c .before .before .if1 .left) _ (c .before .before .before .before .own .ensures) (ltb-false _ _ (sym (c .before .before .before .has-row .ensures) ∙ c .before .if2 .left))
 
 returns-3 : tie.Need-returns-3 Inv-loop μ-loop
 returns-3 c = ap located (left-end _ _ _ _ _ _ _ (c .before .loop .inv) (omega arith))
