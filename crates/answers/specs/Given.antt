@@ -6,10 +6,13 @@ use Rattle.rules.specs.declared.Located.{Located}
 use Rattle.rules.specs.declared.Tested.{Tested}
 use Rattle.rules.specs.declared.InScope.{InScope}
 use Rattle.rules.specs.declared.Normalized.{Normalized}
+use Rattle.rules.specs.declared.Read.{Read}
+use Rattle.rules.specs.declared.Written.{Written}
 use Rattle.answers.specs.declared.Number.{Number}
 use Rattle.answers.specs.declared.Found.{Found}
 use Rattle.answers.specs.declared.Test.{Test}
 use Rattle.answers.specs.declared.Sizes.{Sizes}
+use Rattle.answers.specs.declared.Used.{Used}
 
 abbrev pub numberGiven : rules.Number → Number
 numberGiven n = record { number = n .number; row = record { 0 = n .row } }
@@ -21,13 +24,19 @@ abbrev pub checkGiven : Checked → Number
 checkGiven a = numberGiven (rules.checkNumber a)
 
 abbrev pub locatedGiven : Located → Found
-locatedGiven a = record { number = numberGiven (rules.locatedNumber a); place = rules.locatedPlace a; «built_in» = rules.NO-BUILT-IN }
+locatedGiven a = record { number = numberGiven (rules.locatedNumber a); found = rules.locatedFound a; place = rules.locatedPlace a }
 
 abbrev pub testedGiven : Tested → Test
 testedGiven a = record { number = numberGiven (rules.testedNumber a); yes = rules.testedYes a }
 
 abbrev pub inScopeGiven : InScope → Found
-inScopeGiven a = record { number = numberGiven (rules.inScopeNumber a); place = rules.inScopePlace a; «built_in» = rules.inScopeBuiltIn a }
+inScopeGiven a = record { number = numberGiven (rules.inScopeNumber a); found = rules.inScopeFound a; place = rules.inScopePlace a }
 
 abbrev pub normalizedGiven : Normalized → Sizes
 normalizedGiven a = record { number = numberGiven (rules.normalizedNumber a); rows = rules.normalizedRows a; bytes = rules.normalizedBytes a }
+
+abbrev pub readGiven : Read → Sizes
+readGiven a = record { number = numberGiven (rules.readNumber a); rows = rules.readRows a; bytes = rules.readBytes a }
+
+abbrev pub writtenGiven : Written → Used
+writtenGiven a = record { number = numberGiven (rules.writtenNumber a); bytes = rules.writtenBytes a }

@@ -1,46 +1,61 @@
-// RULES 2: the numbers and values of each answer.
+// RULES 2: the numbers and values of each answer, as structs that C reads too.
 ghost use mathlib.Core.Path.{_≡_};
-ghost use Rattle.answers.specs.Given.{refusalGiven, checkGiven, locatedGiven, testedGiven, inScopeGiven, normalizedGiven};
+ghost use Rattle.answers.specs.Given.{refusalGiven, checkGiven, locatedGiven, testedGiven, inScopeGiven, normalizedGiven, readGiven, writtenGiven};
 use rules::Checked;
 use rules::InScope;
 use rules::Located;
 use rules::Normalized;
 use rules::Offset;
 use rules::Place;
+use rules::Read;
 use rules::Refusal;
 use rules::Row;
 use rules::Tested;
+use rules::Written;
 
 // The refusal's number and row; 0 and row 0 where nothing is refused.
+#[repr(C)]
 pub struct Number {
     pub number: u32,
     pub row: Row,
 }
 
-// What a lookup found. The place is 0, 0 for nothing, for a built-in and for a refusal.
+// What a lookup found, and where. The place is 0, 0 for nothing, for a built-in and for a refusal.
+#[repr(C)]
 pub struct Found {
     pub number: Number,
+    pub found: u32,
     pub place: Place,
-    pub built_in: u32,
 }
 
-// Which built-in was found.
-pub const NO_BUILT_IN: u32 = 0;
+// What was found.
+pub const NOTHING: u32 = 0;
 
-pub const BUILT_IN_XML: u32 = 1;
+pub const PLACE: u32 = 1;
 
-pub const BUILT_IN_XMLNS: u32 = 2;
+pub const BUILT_IN_XML: u32 = 2;
+
+pub const BUILT_IN_XMLNS: u32 = 3;
 
 // What the default test said; no for a refusal.
+#[repr(C)]
 pub struct Test {
     pub number: Number,
     pub yes: bool,
 }
 
-// The rows and bytes of a normalization's result; 0 for a refusal.
+// The rows and bytes of two outputs that are used; 0 for a refusal.
+#[repr(C)]
 pub struct Sizes {
     pub number: Number,
     pub rows: usize,
+    pub bytes: usize,
+}
+
+// The bytes of an output that are used; 0 for a refusal.
+#[repr(C)]
+pub struct Used {
+    pub number: Number,
     pub bytes: usize,
 }
 
@@ -67,9 +82,9 @@ pub fn located(answer: Located) -> Found
     ensures { λ r. ⌜ r ≡ locatedGiven answer ⌝ }
 {
     match answer {
-        Located::At(place) => Found::new(NOT_REFUSED, place, NO_BUILT_IN),
-        Located::Nothing => Found::new(NOT_REFUSED, NO_PLACE, NO_BUILT_IN),
-        Located::Refused(refusal) => Found::new(number_of(refusal), NO_PLACE, NO_BUILT_IN),
+        Located::At(place) => Found::new(NOT_REFUSED, PLACE, place),
+        Located::Nothing => Found::new(NOT_REFUSED, NOTHING, NO_PLACE),
+        Located::Refused(refusal) => Found::new(number_of(refusal), NOTHING, NO_PLACE),
     }
 }
 
@@ -87,11 +102,11 @@ pub fn in_scope(answer: InScope) -> Found
     ensures { λ r. ⌜ r ≡ inScopeGiven answer ⌝ }
 {
     match answer {
-        InScope::At(place) => Found::new(NOT_REFUSED, place, NO_BUILT_IN),
-        InScope::Xml => Found::new(NOT_REFUSED, NO_PLACE, BUILT_IN_XML),
-        InScope::Xmlns => Found::new(NOT_REFUSED, NO_PLACE, BUILT_IN_XMLNS),
-        InScope::Nothing => Found::new(NOT_REFUSED, NO_PLACE, NO_BUILT_IN),
-        InScope::Refused(refusal) => Found::new(number_of(refusal), NO_PLACE, NO_BUILT_IN),
+        InScope::At(place) => Found::new(NOT_REFUSED, PLACE, place),
+        InScope::Xml => Found::new(NOT_REFUSED, BUILT_IN_XML, NO_PLACE),
+        InScope::Xmlns => Found::new(NOT_REFUSED, BUILT_IN_XMLNS, NO_PLACE),
+        InScope::Nothing => Found::new(NOT_REFUSED, NOTHING, NO_PLACE),
+        InScope::Refused(refusal) => Found::new(number_of(refusal), NOTHING, NO_PLACE),
     }
 }
 
@@ -101,6 +116,24 @@ pub fn normalized(answer: Normalized) -> Sizes
     match answer {
         Normalized::Done { rows, bytes } => Sizes::new(NOT_REFUSED, rows, bytes),
         Normalized::Refused(refusal) => Sizes::new(number_of(refusal), 0, 0),
+    }
+}
+
+pub fn read(answer: Read) -> Sizes
+    ensures { λ r. ⌜ r ≡ readGiven answer ⌝ }
+{
+    match answer {
+        Read::Done { rows, bytes } => Sizes::new(NOT_REFUSED, rows, bytes),
+        Read::Refused(refusal) => Sizes::new(number_of(refusal), 0, 0),
+    }
+}
+
+pub fn written(answer: Written) -> Used
+    ensures { λ r. ⌜ r ≡ writtenGiven answer ⌝ }
+{
+    match answer {
+        Written::Done { bytes } => Used::new(NOT_REFUSED, bytes),
+        Written::Refused(refusal) => Used::new(number_of(refusal), 0),
     }
 }
 
@@ -131,17 +164,33 @@ fn number_of(refusal: Refusal) -> Number
             number: 11,
             row: Row(0),
         },
+        Refusal::Mark => Number {
+            number: 30,
+            row: Row(0),
+        },
+        Refusal::Version => Number {
+            number: 31,
+            row: Row(0),
+        },
+        Refusal::Lengths => Number {
+            number: 32,
+            row: Row(0),
+        },
+        Refusal::BundleRoom => Number {
+            number: 33,
+            row: Row(0),
+        },
     }
 }
 
 impl Found {
-    fn new(number: Number, place: Place, built_in: u32) -> Self
-        ensures { λ r. ⌜ r ≡ record { number = number; place = place; «built_in» = «built_in» } ⌝ }
+    fn new(number: Number, found: u32, place: Place) -> Self
+        ensures { λ r. ⌜ r ≡ record { number = number; found = found; place = place } ⌝ }
     {
         Self {
             number,
+            found,
             place,
-            built_in,
         }
     }
 }
@@ -163,5 +212,13 @@ impl Sizes {
             rows,
             bytes,
         }
+    }
+}
+
+impl Used {
+    fn new(number: Number, bytes: usize) -> Self
+        ensures { λ r. ⌜ r ≡ record { number = number; bytes = bytes } ⌝ }
+    {
+        Self { number, bytes }
     }
 }

@@ -12,7 +12,7 @@ use lib.Seq.{take-append-le, drop-append-le, drop-append-seam, take-length, take
 use lib.Dec.{T, eqb, leb, leb·zero}
 use borrow.Author.Tests.{leb-true, le-leb}
 use Rattle.rules.specs.Lists.{anyOf, allOf, sameBytes, isEmpty}
-use Rattle.rules.specs.Table.{WIDTH, PREFIX, LOCAL-NAME, URI, VALUE, ELEMENT, Field, noField, part, Node, noNode, word, fieldAt, nodeAt, rowCount, nodes, words, node}
+use Rattle.rules.specs.Table.{WIDTH, PREFIX, LOCAL-NAME, URI, VALUE, ELEMENT, Field, noField, part, Node, fields, noNode, word, fieldAt, nodeAt, rowCount, nodes, words, node}
 use Rattle.rules.specs.Answers.{numberOf, normalizedNumber, normalizedRows, normalizedBytes}
 use Rattle.rules.specs.Refusals.{firstRefusal, unlessRefused, checkRefusal}
 use Rattle.rules.proofs.Refusals.{all-none}
@@ -49,6 +49,18 @@ fits pool n e =
 fit : (pool : List ℕ) (n : Node) → Fits pool n → fitsIn pool n ≡ true
 unfolding fitsIn
 fit pool n f = true-both (f .prefix) (true-both (f .local) (true-both (f .uri) (f .value)))
+
+in-pool-ends : (pool : List ℕ) (f : Field) → inPool pool f ≡ true → leb (f .offset + f .size) (length pool) ≡ true
+unfolding inPool
+in-pool-ends pool f e = both-true (leb (f .offset + f .size) (length pool)) (sameBytes (f .bytes) (part pool (f .offset) (f .size))) e .0
+
+-- The fields of a row that fits end in the pool.
+pub fits-fields : (pool : List ℕ) (n : Node) → fitsIn pool n ≡ true → allOf (λ (f : Field). leb (f .offset + f .size) (length pool)) (fields n) ≡ true
+fits-fields pool n e =
+    let f = fits pool n e in
+    true-both (in-pool-ends pool (n .prefix) (f .prefix))
+    (true-both (in-pool-ends pool (n .local) (f .local))
+    (true-both (in-pool-ends pool (n .uri) (f .uri)) (true-both (in-pool-ends pool (n .value) (f .value)) refl)))
 
 in-pool-grown : (pool more : List ℕ) (f : Field) → inPool pool f ≡ true → inPool (pool ++ more) f ≡ true
 unfolding inPool
@@ -280,7 +292,7 @@ success-rows tableSize poolSize s h =
     (rows-back (s .pool) (s .rows) h)
 
 -- No refusal has the number 0.
-refusal-numbered : (x : Refusal) → eqb (numberOf x .number) 0 ≡ false
+pub refusal-numbered : (x : Refusal) → eqb (numberOf x .number) 0 ≡ false
 unfolding numberOf
 refusal-numbered Refusal.Size = refl
 refusal-numbered (Refusal.Structure r) = refl
@@ -293,6 +305,10 @@ refusal-numbered Refusal.NoSuchRow = refl
 refusal-numbered (Refusal.Level1 r) = refl
 refusal-numbered Refusal.RowRoom = refl
 refusal-numbered Refusal.PoolRoom = refl
+refusal-numbered Refusal.Mark = refl
+refusal-numbered Refusal.Version = refl
+refusal-numbered Refusal.Lengths = refl
+refusal-numbered Refusal.BundleRoom = refl
 
 refused-fails : (tableSize poolSize : ℕ) (x : Refusal) → succeeded (refusal tableSize poolSize x) ≡ false
 unfolding succeeded refusal normalizedNumber

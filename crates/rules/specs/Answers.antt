@@ -11,6 +11,8 @@ use Rattle.rules.specs.declared.Located.{Located}
 use Rattle.rules.specs.declared.Tested.{Tested}
 use Rattle.rules.specs.declared.InScope.{InScope}
 use Rattle.rules.specs.declared.Normalized.{Normalized}
+use Rattle.rules.specs.declared.Read.{Read}
+use Rattle.rules.specs.declared.Written.{Written}
 
 -- A refusal and its row, as the host sees them.
 pub record Number : Type 0 where
@@ -29,6 +31,10 @@ numberOf Refusal.NoSuchRow = record { number = 8; row = 0 }
 numberOf (Refusal.Level1 r) = record { number = 9; row = r .0 }
 numberOf Refusal.RowRoom = record { number = 10; row = 0 }
 numberOf Refusal.PoolRoom = record { number = 11; row = 0 }
+numberOf Refusal.Mark = record { number = 30; row = 0 }
+numberOf Refusal.Version = record { number = 31; row = 0 }
+numberOf Refusal.Lengths = record { number = 32; row = 0 }
+numberOf Refusal.BundleRoom = record { number = 33; row = 0 }
 
 abbrev pub notRefused : Number
 notRefused = record { number = 0; row = 0 }
@@ -105,19 +111,49 @@ unfoldable pub normalizedBytes : Normalized → ℕ
 normalizedBytes (Normalized.Done rows bytes) = bytes
 normalizedBytes (Normalized.Refused x) = 0
 
--- Which built-in an in-scope lookup answers, as a number.
-abbrev pub NO-BUILT-IN : ℕ
-NO-BUILT-IN = 0
+-- What a lookup found, as a number; a refusal finds nothing.
+abbrev pub NOTHING : ℕ
+NOTHING = 0
+
+abbrev pub PLACE : ℕ
+PLACE = 1
 
 abbrev pub BUILT-IN-XML : ℕ
-BUILT-IN-XML = 1
+BUILT-IN-XML = 2
 
 abbrev pub BUILT-IN-XMLNS : ℕ
-BUILT-IN-XMLNS = 2
+BUILT-IN-XMLNS = 3
 
-unfoldable pub inScopeBuiltIn : InScope → ℕ
-inScopeBuiltIn (InScope.At p) = NO-BUILT-IN
-inScopeBuiltIn InScope.Xml = BUILT-IN-XML
-inScopeBuiltIn InScope.Xmlns = BUILT-IN-XMLNS
-inScopeBuiltIn InScope.Nothing = NO-BUILT-IN
-inScopeBuiltIn (InScope.Refused x) = NO-BUILT-IN
+unfoldable pub locatedFound : Located → ℕ
+locatedFound (Located.At p) = PLACE
+locatedFound Located.Nothing = NOTHING
+locatedFound (Located.Refused x) = NOTHING
+
+unfoldable pub inScopeFound : InScope → ℕ
+inScopeFound (InScope.At p) = PLACE
+inScopeFound InScope.Xml = BUILT-IN-XML
+inScopeFound InScope.Xmlns = BUILT-IN-XMLNS
+inScopeFound InScope.Nothing = NOTHING
+inScopeFound (InScope.Refused x) = NOTHING
+
+-- The number, rows and pool bytes of a bundle that was read.
+unfoldable pub readNumber : Read → Number
+readNumber (Read.Done rows bytes) = notRefused
+readNumber (Read.Refused x) = numberOf x
+
+unfoldable pub readRows : Read → ℕ
+readRows (Read.Done rows bytes) = rows
+readRows (Read.Refused x) = 0
+
+unfoldable pub readBytes : Read → ℕ
+readBytes (Read.Done rows bytes) = bytes
+readBytes (Read.Refused x) = 0
+
+-- The number and bytes of a bundle that was written.
+unfoldable pub writtenNumber : Written → Number
+writtenNumber (Written.Done bytes) = notRefused
+writtenNumber (Written.Refused x) = numberOf x
+
+unfoldable pub writtenBytes : Written → ℕ
+writtenBytes (Written.Done bytes) = bytes
+writtenBytes (Written.Refused x) = 0

@@ -56,12 +56,15 @@ pub const LEVEL1_ELEMENT: u32 = 257;
 pub const LEVEL1_ATTRIBUTE: u32 = 258;
 
 // The number of a row of the node table, counted from 0.
+#[repr(C)]
 pub struct Row(pub u32);
 
 // A place in the pool, in bytes from its start.
+#[repr(C)]
 pub struct Offset(pub u32);
 
 // A part of the pool.
+#[repr(C)]
 pub struct Place {
     pub offset: Offset,
     pub length: u32,
@@ -91,6 +94,14 @@ pub enum Refusal {
     RowRoom,
     // 11: the result has more pool bytes than a pool or the output can hold.
     PoolRoom,
+    // 30: a bundle's mark is another, or not whole.
+    Mark,
+    // 31: a bundle is of another version, or ends before it.
+    Version,
+    // 32: a bundle's lengths disagree with its bytes, or its zero byte is not zero.
+    Lengths,
+    // 33: the output has too few bytes for the bundle.
+    BundleRoom,
 }
 
 // What the check answers.
@@ -125,5 +136,17 @@ pub enum InScope {
 // What normalization answers: how many rows and pool bytes of the outputs the result takes.
 pub enum Normalized {
     Done { rows: usize, bytes: usize },
+    Refused(Refusal),
+}
+
+// What reading a bundle answers: how many rows and pool bytes of the outputs it takes.
+pub enum Read {
+    Done { rows: usize, bytes: usize },
+    Refused(Refusal),
+}
+
+// What writing a bundle answers: how many bytes of the output it takes.
+pub enum Written {
+    Done { bytes: usize },
     Refused(Refusal),
 }

@@ -1,6 +1,6 @@
 -- `answers::in_scope` meets its contract.
 -- Assumes nothing.
-use Rattle.rules.specs.Answers.{inScopeNumber, inScopePlace, inScopeBuiltIn}
+use Rattle.rules.specs.Answers.{inScopeNumber, inScopeFound, inScopePlace}
 use Rattle.answers.specs.Given.{inScopeGiven}
 use Rattle.answers.proofs.Told.{told}
 use borrow.Author.Needs.{needs}
@@ -8,7 +8,7 @@ use Rattle.answers.proofs.in_scope.Statement.{statement}
 use Rattle.answers.proofs.in_scope.Tie as tie
 
 pub in-scope-spec : {M : Type 1} → statement M
-unfolding inScopeNumber inScopePlace inScopeBuiltIn
+unfolding inScopeNumber inScopeFound inScopePlace
 in-scope-spec =
     tie.close
     (tie.spec

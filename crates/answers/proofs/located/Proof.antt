@@ -1,6 +1,6 @@
 -- `answers::located` meets its contract.
 -- Assumes nothing.
-use Rattle.rules.specs.Answers.{locatedNumber, locatedPlace}
+use Rattle.rules.specs.Answers.{locatedNumber, locatedFound, locatedPlace}
 use Rattle.answers.specs.Given.{locatedGiven}
 use Rattle.answers.proofs.Told.{told}
 use borrow.Author.Needs.{needs}
@@ -8,7 +8,7 @@ use Rattle.answers.proofs.located.Statement.{statement}
 use Rattle.answers.proofs.located.Tie as tie
 
 pub located-spec : {M : Type 1} → statement M
-unfolding locatedNumber locatedPlace
+unfolding locatedNumber locatedFound locatedPlace
 located-spec =
     tie.close
     (tie.spec
