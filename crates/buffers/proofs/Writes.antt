@@ -2,12 +2,12 @@
 -- Assumes nothing.
 use Prim.Native.Nat.{ℕ, suc, _+_, _-_, _≤_, _<_}
 use mathlib.Core.Path.{_≡_, refl, sym, ap, _∙_}
-use mathlib.Core.List.{List, [], _∷_, _++_, append-nil}
+use mathlib.Core.List.{List, [], _∷_, _++_, append-nil, append-assoc}
 use native.Mathlib.Nat.{zero-add, le-antisymm}
 use native.Mathlib.Numerals.{add-one}
 use native.Mathlib.Omega.{arith}
 use lib.ListN.{length, getD, take, drop, set, replicate, length-set, length-append, length-drop}
-use lib.Seq.{take-all, take-length, take-suc-set, take-append-seam, getD-append-seam, append-snoc, length-take-le, paste, paste-suc}
+use lib.Seq.{take-all, take-length, take-suc-set, take-append-seam, getD-append-seam, append-snoc, length-take-le, take-at, drop-at, drop-drop, paste, paste-suc}
 use Rattle.buffers.specs.Writes.{written, cleared}
 
 -- What is left to clear decides what the buffer will be.
@@ -51,3 +51,19 @@ pub length-written : (t : List ℕ) (at : ℕ) (l : List ℕ) → at + length l 
 length-written t at l h =
     let e : length (take at t) ≡ at = length-take-le at t (omega arith) in
     simp (length-append, length-drop, e) (omega arith)
+
+-- A write behind what was written is one longer write.
+pub written-behind : (t : List ℕ) (at : ℕ) (a b : List ℕ) → at + length a + length b ≤ length t → written (written t at a) (at + length a) b ≡ written t at (a ++ b)
+written-behind t at a b h =
+    let front = take at t ++ a in
+    let rest = drop (at + length a) t in
+    let seam : length front ≡ at + length a = length-append (take at t) a ∙ ap (λ (n : ℕ). n + length a) (length-take-le at t (omega arith)) in
+    let kept : take (at + length a) (written t at a) ≡ front = take-at front rest (at + length a) seam in
+    let gone : drop (at + length a + length b) (written t at a) ≡ drop (at + length a + length b) t =
+    sym (drop-drop (length b) (at + length a) (written t at a)) ∙ ap (drop (length b)) (drop-at front rest (at + length a) seam)
+    ∙ drop-drop (length b) (at + length a) t in
+    let size : at + length a + length b ≡ at + length (a ++ b) = rw length-append (omega arith) in
+    ap (λ (l : List ℕ). l ++ b ++ drop (at + length a + length b) (written t at a)) kept
+    ∙ ap (λ (l : List ℕ). take at t ++ a ++ b ++ l) gone
+    ∙ ap (λ (l : List ℕ). l ++ drop (at + length a + length b) t) (append-assoc (take at t) a b)
+    ∙ ap (λ (n : ℕ). take at t ++ (a ++ b) ++ drop n t) size

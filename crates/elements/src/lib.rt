@@ -30,8 +30,8 @@ pub fn normalize_rows(
     requires { ⌜ Level2 total (meant (now table) (now pool) (sizes .rows) (sizes .bytes) .rows) ⌝ }
     ensures { λ r. ⌜ Finished (now (table .exit)) (now (pool .exit)) limit (r .rows) (r .bytes) (normalizeRows total total (meant (now (table .entry)) (now (pool .entry)) (sizes .rows) (sizes .bytes))) ⌝ }
 {
-    let mut up = [rules::NONE; rules::MOST_ROWS];
-    let mut path = [rules::NONE; rules::MOST_ROWS];
+    let mut up = [buffers::UNREAD; rules::MOST_ROWS];
+    let mut path = [buffers::UNREAD; rules::MOST_ROWS];
     let mut rows = sizes.rows;
     let mut bytes = sizes.bytes;
     let mut r: usize = 0;

@@ -95,6 +95,10 @@ module _ (table pool : List ℕ) where
         first-two (checkRefusal table pool) (level1Refusal (nodes table pool)) (roomRefusal tableSize poolSize (normalForm (nodes table pool) pool)) x
         (verdict-refused (inputRefusal table pool) x e)
 
+    pub refused-answer : Normalized.Refused x ≡ normalized table pool tableSize poolSize .answer
+    unfolding normalized refusal
+    refused-answer = rw same-refusal refl
+
     pub input-refused : {answer : Normalized} {outTable outPool : List ℕ} → Answers (refusal tableSize poolSize x) answer outTable outPool → Answers (normalized table pool tableSize poolSize) answer outTable outPool
     unfolding normalized
     input-refused given = rw same-refusal given

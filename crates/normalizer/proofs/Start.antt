@@ -7,18 +7,82 @@ use mathlib.Core.Option.{none}
 use native.Mathlib.Nat.{le-refl}
 use native.Mathlib.Omega.{arith}
 use lib.ListN.{length, take, drop, length-append, length-drop}
-use Rattle.rules.specs.Table.{WIDTH, MOST-ROWS, ATTRIBUTE, DECLARATION, nodes, rowCount}
+use lib.Seq.{length-take-le}
+use Rattle.rules.specs.Table.{WIDTH, MOST-ROWS, MOST-BYTES, ATTRIBUTE, DECLARATION, nodes, rowCount}
 use Rattle.rules.specs.Normalization.{State, normalizeRows, normalForm}
 use Rattle.rules.proofs.Table.{length-nodes}
-use Rattle.rules.proofs.Accepted.{Accepted, few-rows}
+use Rattle.rules.proofs.Accepted.{Accepted}
 use Rattle.rules.proofs.Unique.{Steady, steady-start}
 use Rattle.rules.proofs.Bounds.{bounded-start, rows-grow, Limit}
 use Rattle.links.specs.Links.{Linked, Index, owned}
 use Rattle.buffers.proofs.Meaning.{copied}
-use Rattle.repair.specs.Working.{meant}
+use Rattle.repair.specs.Working.{Room, meant}
 use Rattle.elements.specs.Buffers.{Working, Level2, Finished}
 use Rattle.normalizer.specs.Input.{inputRefusal, WORK}
+use Rattle.normalizer.specs.Result.{formOf}
 use Rattle.normalizer.proofs.Input.{input-accepted, input-level2}
+
+-- What `make_result` starts from.
+pub record Ready (table work : List ℕ) (rows bytes limit : ℕ) : Type 0 where
+  pub room : Room table rows limit
+  pub size : length work ≡ WORK
+  pub small : bytes ≤ MOST-BYTES
+  pub input : inputRefusal (take (WIDTH * rows) table) (take bytes work) ≡ none
+
+module _ {table work : List ℕ} {rows bytes limit : ℕ} (ready : Ready table work rows bytes limit) where
+  abbrev part : List ℕ
+  part = take (WIDTH * rows) table
+
+  abbrev names : List ℕ
+  names = take bytes work
+
+  pub part-fits : WIDTH * rows ≤ length table
+  part-fits = omega (arith, ready .room .rowRoom, ready .room .tableRoom)
+
+  names-fit : bytes ≤ length work
+  names-fit = omega (arith, ready .size, ready .small)
+
+  names-count : length names ≡ bytes
+  names-count = length-take-le bytes work names-fit
+
+  part-count : rowCount part ≡ rows
+  part-count = let l = length-take-le (WIDTH * rows) table part-fits in omega arith
+
+  pub rows-few : rowCount part ≤ MOST-ROWS
+  rows-few = omega (arith, part-count, ready .room .rowRoom, ready .room .limitSmall)
+
+  node-count : length (nodes part names) ≡ rows
+  node-count = length-nodes part names ∙ part-count
+
+  pub start-working : {first next last attributes following : List ℕ} → Index (owned part DECLARATION) (rowCount part) first next last → length first ≡ MOST-ROWS → length next ≡ MOST-ROWS → Linked (owned part ATTRIBUTE) (rowCount part) attributes following → length attributes ≡ MOST-ROWS → Working rows limit table work first next last attributes following rows bytes 0
+  start-working {first} {next} {last} {attributes} {following} index fl nl links al =
+      record {
+        room = ready .room;
+        index = subst (λ (n : ℕ). Index (owned part DECLARATION) n first next last) part-count index;
+        firstRoom = rw fl (le-refl MOST-ROWS);
+        nextRoom = rw nl (le-refl MOST-ROWS);
+        bytesRoom = names-fit;
+        poolSmall = rw (ready .size) (omega arith);
+        steady = subst (λ (n : ℕ). Steady n (meant table work rows bytes)) node-count (steady-start part names (input-accepted part names (ready .input)));
+        links = subst (λ (n : ℕ). Linked (owned part ATTRIBUTE) n attributes following) part-count links;
+        places = rw al (le-refl MOST-ROWS);
+        roomy =
+            record {
+              base = nodes part names;
+              start = length names;
+              count = node-count;
+              fits = rw (ready .size) (omega (arith, names-count, ready .small, ready .room .rowRoom, ready .room .limitSmall));
+              bounded = bounded-start (nodes part names) names;
+            };
+      }
+
+  pub start-level2 : Level2 rows (meant table work rows bytes .rows)
+  start-level2 = λ r h. input-level2 part names (ready .input) r (rw node-count h)
+
+  pub start-finished : {t p : List ℕ} {n k : ℕ} → Finished t p limit n k (normalizeRows rows rows (meant table work rows bytes)) → Finished t p limit n k (formOf table work rows bytes)
+  unfolding normalForm
+  start-finished {t} {p} {n} {k} made =
+      subst (λ (count : ℕ). Finished t p limit n k (normalizeRows count count (meant table work rows bytes))) (sym node-count) made
 
 -- What `normalize_into` starts from.
 pub record Lent (table pool out work : List ℕ) (limit : ℕ) : Type 0 where
@@ -32,9 +96,6 @@ module _ {table pool out work : List ℕ} {limit : ℕ} (lent : Lent table pool 
 
   whole : length table ≡ WIDTH * rowCount table
   whole = omega (arith, tables .size .whole)
-
-  pub total-few : rowCount table ≤ MOST-ROWS
-  total-few = few-rows table pool (tables .size)
 
   abbrev start : State
   start = record { rows = nodes table pool; pool = pool }
@@ -72,39 +133,18 @@ module _ {table pool out work : List ℕ} {limit : ℕ} (lent : Lent table pool 
       pool-part : take (length pool) work′ ≡ pool
       pool-part = ap (take (length pool)) copied-work ∙ copied pool work
 
-      start-meant : meant out′ work′ (total) (length pool) ≡ start
-      start-meant =
-          ap (λ (l : List ℕ). record { rows = nodes (take (WIDTH * total) out′) l; pool = l }) pool-part
-          ∙ ap (λ (l : List ℕ). record { rows = nodes l pool; pool = pool }) table-part
-
-      pub start-working : {first next last attributes following : List ℕ} → Index (owned table DECLARATION) (rowCount table) first next last → length first ≡ MOST-ROWS → length next ≡ MOST-ROWS → Linked (owned table ATTRIBUTE) (rowCount table) attributes following → length attributes ≡ MOST-ROWS → Working total limit out′ work′ first next last attributes following total (length pool) 0
-      start-working index fl nl links al =
+      -- The copies are what `make_result` starts from, and its result is that of the table and the pool.
+      pub copies-ready : Ready out′ work′ total (length pool) limit
+      copies-ready =
           record {
             room = record { rowRoom = enough; limitSmall = lent .limited .0; tableRoom = rw out-length (omega (arith, lent .limited .1)) };
-            index = rw (table-part, is) index;
-            firstRoom = rw fl (le-refl MOST-ROWS);
-            nextRoom = rw nl (le-refl MOST-ROWS);
-            bytesRoom = rw work-length copy-pool-fits;
-            poolSmall = rw (work-length, lent .size) (omega arith);
-            steady = rw start-meant (subst (λ (n : ℕ). Steady n start) (length-nodes table pool ∙ sym is) (steady-start table pool tables));
-            links = rw (table-part, is) links;
-            places = rw al (le-refl MOST-ROWS);
-            roomy =
-                record {
-                  base = nodes table pool;
-                  start = length pool;
-                  count = length-nodes table pool ∙ sym is;
-                  fits = rw (work-length, lent .size) (omega (arith, tables .size .poolBound, total-few, is));
-                  bounded = rw start-meant (bounded-start (nodes table pool) pool);
-                };
+            size = work-length ∙ lent .size;
+            small = tables .size .poolBound;
+            input = rw (table-part, pool-part) (lent .input);
           }
 
-      pub start-level2 : Level2 total (meant out′ work′ (total) (length pool) .rows)
-      start-level2 = subst (λ (s : State). Level2 total (s .rows)) (sym start-meant) (λ r h. input-level2 table pool (lent .input) r (rw (length-nodes, sym is) h))
-
-      pub start-finished : {t p : List ℕ} {rows bytes : ℕ} → Finished t p limit rows bytes (normalizeRows total total (meant out′ work′ (total) (length pool))) → Finished t p limit rows bytes (normalForm (nodes table pool) pool)
-      unfolding normalForm
-      start-finished {t} {p} {rows} {bytes} made =
-          subst (Finished t p limit rows bytes)
-          (ap (normalizeRows total total) start-meant ∙ ap (λ (n : ℕ). normalizeRows n n start) (is ∙ sym (length-nodes table pool)))
+      pub copies-finished : {t p : List ℕ} {n k : ℕ} → Finished t p limit n k (formOf out′ work′ total (length pool)) → Finished t p limit n k (normalForm (nodes table pool) pool)
+      copies-finished {t} {p} {n} {k} made =
+          subst (Finished t p limit n k)
+          (ap (λ (l : List ℕ). normalForm (nodes l (take (length pool) work′)) (take (length pool) work′)) table-part ∙ ap (λ (l : List ℕ). normalForm (nodes table l) l) pool-part)
           made

@@ -1,15 +1,18 @@
-// Namespace normalization into lent buffers.
+// Namespace normalization into lent buffers, and in place.
 ghost use mathlib.Core.Path.{_≡_};
 ghost use mathlib.Core.List.{List};
 ghost use mathlib.Core.Option.{none};
-ghost use Prim.Native.Nat.{ℕ, _≤_};
-ghost use lib.ListN.{length};
-ghost use Rattle.rules.specs.Table.{MOST-ROWS, rowCount, nodes};
+ghost use Prim.Native.Nat.{ℕ, _*_, _≤_};
+ghost use lib.ListN.{length, take};
+ghost use Rattle.rules.specs.Table.{WIDTH, MOST-ROWS, MOST-BYTES, rowCount, nodes};
 ghost use Rattle.rules.specs.Refusals.{verdict};
 ghost use Rattle.rules.specs.Normalization.{normalForm, level1Refusal, normalized};
+ghost use Rattle.rules.specs.declared.Normalized.{Normalized};
 ghost use Rattle.rules.proofs.Bounds.{Limit};
+ghost use Rattle.repair.specs.Working.{Room};
 ghost use Rattle.elements.specs.Buffers.{Finished};
 ghost use Rattle.normalizer.specs.Input.{inputRefusal, WORK};
+ghost use Rattle.normalizer.specs.Result.{formOf, Holds};
 use repair::Sizes;
 use rules::Checked;
 use rules::Normalized;
@@ -17,7 +20,7 @@ use rules::Refusal;
 use rules::Row;
 
 // The bytes of the working pool: those of any pool, and an NS prefix for each of its rows.
-const WORK: usize = rules::MOST_BYTES + 6 * rules::MOST_ROWS;
+pub const WORK: usize = rules::MOST_BYTES + 6 * rules::MOST_ROWS;
 
 // Namespace normalization of a table and its pool into an output table and an output pool: so that
 // every element and every owned attribute means its URI in scope, whatever the other rows hold.
@@ -36,6 +39,25 @@ pub fn normalize(
     match judge(table, pool) {
         Checked::Accepted => normalize_accepted(table, pool, out_table, out_pool),
         Checked::Refused(why) => outputs::refuse(out_table, out_pool, why),
+    }
+}
+
+// Namespace normalization in place, of the first rows of a table and the first bytes of a working pool, by the limits of a table.
+// Success answers the rows and bytes of the result, which then stand there; what stands behind them is not told.
+pub fn normalize_in_place(
+    words: &mut [u32],
+    work: &mut [u8],
+    rows: usize,
+    bytes: usize,
+) -> Normalized
+    requires { ⌜ (length (now words) ≡ WIDTH * MOST-ROWS) × (length (now work) ≡ WORK) ⌝ }
+    requires { ⌜ (rows ≤ MOST-ROWS) × (bytes ≤ MOST-BYTES) ⌝ }
+    ensures { λ r. ⌜ r ≡ normalized (take (WIDTH * rows) (now (words .entry))) (take bytes (now (work .entry))) (WIDTH * MOST-ROWS) MOST-BYTES .answer ⌝ }
+    ensures { λ r. ⌜ ((n k : ℕ) → r ≡ Normalized.Done n k → Holds (now (words .exit)) (now (work .exit)) n k (formOf (now (words .entry)) (now (work .entry)) rows bytes)) ⌝ }
+{
+    match judge(&words[..rules::WIDTH * rows], &work[..bytes]) {
+        Checked::Accepted => accepted_in_place(words, work, rows, bytes),
+        Checked::Refused(why) => Normalized::Refused(why),
     }
 }
 
@@ -83,6 +105,24 @@ fn normalize_accepted(
     outputs::finish(out_table, out_pool, &work, sizes.rows, sizes.bytes, limit)
 }
 
+// Normalizes an input that draws none of these refusals, in place.
+fn accepted_in_place(words: &mut [u32], work: &mut [u8], rows: usize, bytes: usize) -> Normalized
+    requires { ⌜ (length (now words) ≡ WIDTH * MOST-ROWS) × (length (now work) ≡ WORK) ⌝ }
+    requires { ⌜ (rows ≤ MOST-ROWS) × (bytes ≤ MOST-BYTES) ⌝ }
+    requires { ⌜ inputRefusal (take (WIDTH * rows) (now words)) (take bytes (now work)) ≡ none ⌝ }
+    ensures { λ r. ⌜ r ≡ normalized (take (WIDTH * rows) (now (words .entry))) (take bytes (now (work .entry))) (WIDTH * MOST-ROWS) MOST-BYTES .answer ⌝ }
+    ensures { λ r. ⌜ ((n k : ℕ) → r ≡ Normalized.Done n k → Holds (now (words .exit)) (now (work .exit)) n k (formOf (now (words .entry)) (now (work .entry)) rows bytes)) ⌝ }
+{
+    let made = make_result(words, work, rows, bytes, rules::MOST_ROWS);
+    match outputs::room(made.rows, made.bytes, rules::MOST_ROWS, rules::MOST_BYTES) {
+        Checked::Accepted => Normalized::Done {
+            rows: made.rows,
+            bytes: made.bytes,
+        },
+        Checked::Refused(why) => Normalized::Refused(why),
+    }
+}
+
 // Makes the result in the output table and a working pool. Answers how many rows and bytes it has, or
 // more rows than the limit where those are too many.
 fn normalize_into(
@@ -106,12 +146,24 @@ fn normalize_into(
     }
     buffers::copy_words(table, out_table);
     buffers::copy_bytes(pool, work);
+    make_result(out_table, work, total, pool.len(), limit)
+}
+
+// Makes the result of the first rows of a table and the first bytes of a working pool, in place. Answers how many rows and bytes
+// it has, or more rows than the limit where those are too many.
+fn make_result(words: &mut [u32], work: &mut [u8], rows: usize, bytes: usize, limit: usize) -> Sizes
+    requires { ⌜ Room (now words) rows limit ⌝ }
+    requires { ⌜ (length (now work) ≡ WORK) × (bytes ≤ MOST-BYTES) ⌝ }
+    requires { ⌜ inputRefusal (take (WIDTH * rows) (now words)) (take bytes (now work)) ≡ none ⌝ }
+    ensures { λ r. ⌜ Finished (now (words .exit)) (now (work .exit)) limit (r .rows) (r .bytes) (formOf (now (words .entry)) (now (work .entry)) rows bytes) ⌝ }
+{
+    let table = &words[..rules::WIDTH * rows];
     let mut first = [rules::NONE; rules::MOST_ROWS];
-    let mut next = [rules::NONE; rules::MOST_ROWS];
+    let mut next = [buffers::UNREAD; rules::MOST_ROWS];
     let mut last = [rules::NONE; rules::MOST_ROWS];
     links::build(table, rules::DECLARATION, &mut first, &mut next, &mut last);
     let mut attributes = [rules::NONE; rules::MOST_ROWS];
-    let mut following = [rules::NONE; rules::MOST_ROWS];
+    let mut following = [buffers::UNREAD; rules::MOST_ROWS];
     let mut ends = [rules::NONE; rules::MOST_ROWS];
     links::build(
         table,
@@ -121,18 +173,15 @@ fn normalize_into(
         &mut ends,
     );
     elements::normalize_rows(
-        out_table,
+        words,
         work,
         &mut first,
         &mut next,
         &mut last,
         &attributes,
         &following,
-        Sizes {
-            rows: total,
-            bytes: pool.len(),
-        },
+        Sizes { rows, bytes },
         limit,
-        total,
+        rows,
     )
 }

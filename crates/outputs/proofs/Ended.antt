@@ -83,6 +83,15 @@ module _ (limit : ℕ) (table : List ℕ) (size : ℕ) (work : List ℕ) (rows b
   unfolding ended roomLack
   ended-completed h q = rw (h, q) refl
 
+  -- What the room for the result tells of the answer.
+  pub answer-done : verdict (roomLack limit size rows bytes) ≡ Checked.Accepted → Normalized.Done rows bytes ≡ ended limit table size work rows bytes .answer
+  unfolding ended completed
+  answer-done e = rw (verdict-accepted (roomLack limit size rows bytes) e) refl
+
+  pub answer-refused : (x : Refusal) → verdict (roomLack limit size rows bytes) ≡ Checked.Refused x → Normalized.Refused x ≡ ended limit table size work rows bytes .answer
+  unfolding ended refusal
+  answer-refused x e = rw (verdict-refused (roomLack limit size rows bytes) x e) refl
+
   -- The two ways of `finish`.
   pub ended-refused : {x : Refusal} → verdict (roomLack limit size rows bytes) ≡ Checked.Refused x → {answer : Normalized} {table′ pool′ : List ℕ} → Answers (refusal (length table) size x) answer table′ pool′ → Answers (ended limit table size work rows bytes) answer table′ pool′
   unfolding ended

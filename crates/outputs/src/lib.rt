@@ -60,7 +60,7 @@ pub fn finish(
 }
 
 // The room for so many rows and so many bytes of a pool: refusals 10 and 11.
-fn room(rows: usize, bytes: usize, limit: usize, size: usize) -> Checked
+pub fn room(rows: usize, bytes: usize, limit: usize, size: usize) -> Checked
     ensures { λ r. ⌜ r ≡ verdict (roomLack limit size rows bytes) ⌝ }
 {
     let over_rows = limit < rows;
