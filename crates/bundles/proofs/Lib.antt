@@ -1,0 +1,10 @@
+-- Inverse: reader and writer undo each other. Words: the numbers of a table fit into words. Demand3: demand 3 over bundles. Cases: the
+-- documents' examples. Opening: what the tests of a bundle's beginning tell. Writing: what the writes leave. Over: what an operation
+-- answers, once a bundle is open.
+pub mod Opening
+pub mod Writing
+pub mod Over
+pub mod Words
+pub mod Inverse
+pub mod Demand3
+pub mod Cases

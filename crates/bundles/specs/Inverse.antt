@@ -1,0 +1,26 @@
+-- RULES 11.8, session bundles: reader and writer are inverse.
+use Prim.Native.Nat.{ℕ}
+use mathlib.Core.Path.{_≡_}
+use mathlib.Core.Bool.{true}
+use mathlib.Core.List.{List}
+use mathlib.Core.Option.{none}
+use Rattle.rules.specs.Lists.{allOf}
+use Rattle.rules.specs.Refusals.{checkRefusal}
+use Rattle.little_endian.specs.Numbers.{isByte}
+use Rattle.bundles.specs.Bundles.{writeBundle, bundleRefusal, bundleTable, bundlePool}
+
+-- The bytes are a bundle, and stand for this table and this pool.
+pub record StandsFor (bytes table pool : List ℕ) : Type 0 where
+  pub bundle : bundleRefusal bytes ≡ none
+  pub tableRead : bundleTable bytes ≡ table
+  pub poolRead : bundlePool bytes ≡ pool
+
+-- Every legal table and its pool are read back from what is written of them.
+abbrev pub ReadsBack : Type 0
+ReadsBack = (table pool : List ℕ) → checkRefusal table pool ≡ none → StandsFor (writeBundle table pool) table pool
+
+-- What is read of a bundle is written back as it was, every byte.
+abbrev pub WritesBack : Type 0
+WritesBack =
+    (bytes : List ℕ) → allOf isByte bytes ≡ true → bundleRefusal bytes ≡ none →
+    writeBundle (bundleTable bytes) (bundlePool bytes) ≡ bytes

@@ -1,0 +1,2 @@
+-- Numbers as bytes, little-endian.
+pub mod Numbers
