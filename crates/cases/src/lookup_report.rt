@@ -12,13 +12,13 @@ pub fn found(text: usize, given: Found, nothing: usize) {
         return;
     }
     let place = given.place;
-    if place.length > 0 {
+    if given.found == answers::PLACE {
         let offset = place.offset;
         io::print_decimal(1, offset.0 as u64);
         texts::say(texts::SPACE, place.length as usize);
         return;
     }
-    built_in(given.built_in, nothing);
+    built_in(given.found, nothing);
 }
 
 // Whether a URI is the default, or a refusal.
@@ -40,10 +40,10 @@ fn refused(given: Number) -> bool {
     true
 }
 
-fn built_in(number: u32, nothing: usize) {
-    if number == answers::BUILT_IN_XML {
+fn built_in(found: u32, nothing: usize) {
+    if found == answers::BUILT_IN_XML {
         texts::write(texts::XML);
         return;
     }
-    texts::either(number == answers::BUILT_IN_XMLNS, texts::XMLNS, nothing);
+    texts::either(found == answers::BUILT_IN_XMLNS, texts::XMLNS, nothing);
 }

@@ -1,0 +1,91 @@
+// The functions that a C host calls, declared in include/noemathu.h: each takes bytes and numbers, and hands over its whole
+// answer.
+ghost use mathlib.Core.Path.{_≡_};
+ghost use lib.ListN.{length};
+ghost use Rattle.answers.specs.Given.{checkGiven, locatedGiven, testedGiven, inScopeGiven, readGiven, writtenGiven};
+ghost use Rattle.bundles.specs.Operations.{bundleRead, tableWritten, bundleChecked, bundleUriOfPrefix, bundlePrefixOfUri, bundleIsDefault, bundleInScopeUri, bundleInScopePrefix, bundleNormalized};
+use answers::Found;
+use answers::Number;
+use answers::Sizes;
+use answers::Test;
+use answers::Used;
+use rules::Row;
+
+// The first refusal that a bundle draws, or that it is accepted.
+#[no_mangle]
+pub extern "C" fn noemathu_check(bundle: &[u8]) -> Number
+    ensures { λ r. ⌜ r ≡ checkGiven (bundleChecked (now (bundle .entry))) ⌝ }
+{
+    answers::check_number(sessions::check(bundle))
+}
+
+// The URI of a prefix at a row; the empty prefix is the default.
+#[no_mangle]
+pub extern "C" fn noemathu_uri_of_prefix(bundle: &[u8], row: u32, prefix: &[u8]) -> Found
+    ensures { λ r. ⌜ r ≡ locatedGiven (bundleUriOfPrefix (now (bundle .entry)) row (now (prefix .entry))) ⌝ }
+{
+    answers::located(sessions::uri_of_prefix(bundle, Row(row), prefix))
+}
+
+// A prefix of a URI at a row.
+#[no_mangle]
+pub extern "C" fn noemathu_prefix_of_uri(bundle: &[u8], row: u32, uri: &[u8]) -> Found
+    ensures { λ r. ⌜ r ≡ locatedGiven (bundlePrefixOfUri (now (bundle .entry)) row (now (uri .entry))) ⌝ }
+{
+    answers::located(sessions::prefix_of_uri(bundle, Row(row), uri))
+}
+
+// Whether a URI is the default at a row.
+#[no_mangle]
+pub extern "C" fn noemathu_is_default(bundle: &[u8], row: u32, uri: &[u8]) -> Test
+    ensures { λ r. ⌜ r ≡ testedGiven (bundleIsDefault (now (bundle .entry)) row (now (uri .entry))) ⌝ }
+{
+    answers::tested(sessions::is_default(bundle, Row(row), uri))
+}
+
+// The in-scope URI of a prefix at a row: by declarations alone.
+#[no_mangle]
+pub extern "C" fn noemathu_in_scope_uri(bundle: &[u8], row: u32, prefix: &[u8]) -> Found
+    ensures { λ r. ⌜ r ≡ inScopeGiven (bundleInScopeUri (now (bundle .entry)) row (now (prefix .entry))) ⌝ }
+{
+    answers::in_scope(sessions::in_scope_uri(bundle, Row(row), prefix))
+}
+
+// An in-scope prefix of a URI at a row: by declarations alone.
+#[no_mangle]
+pub extern "C" fn noemathu_in_scope_prefix(bundle: &[u8], row: u32, uri: &[u8]) -> Found
+    ensures { λ r. ⌜ r ≡ inScopeGiven (bundleInScopePrefix (now (bundle .entry)) row (now (uri .entry))) ⌝ }
+{
+    answers::in_scope(sessions::in_scope_prefix(bundle, Row(row), uri))
+}
+
+// Normalizes a bundle into a bundle: so that every element and every owned attribute means its URI in scope, whatever the
+// other rows hold. Success answers the bytes that it takes; the rest of the output is zero, and all of it after a refusal.
+#[no_mangle]
+pub extern "C" fn noemathu_normalize(bundle: &[u8], out: &mut [u8]) -> Used
+    ensures { λ r. ⌜ r ≡ writtenGiven (bundleNormalized (now (bundle .entry)) (length (now (out .entry))) .answer) ⌝ }
+    ensures { λ _. ⌜ now (out .exit) ≡ bundleNormalized (now (bundle .entry)) (length (now (out .entry))) .bytes ⌝ }
+{
+    answers::written(sessions::normalize(bundle, out))
+}
+
+// Reads a bundle into a table and a pool. Success answers the rows and bytes that it takes; the rest of both outputs is zero,
+// and all of them after a refusal.
+#[no_mangle]
+pub extern "C" fn noemathu_read(bundle: &[u8], out_table: &mut [u32], out_pool: &mut [u8]) -> Sizes
+    ensures { λ r. ⌜ r ≡ readGiven (bundleRead (now (bundle .entry)) (length (now («out_table» .entry))) (length (now («out_pool» .entry))) .answer) ⌝ }
+    ensures { λ _. ⌜ now («out_table» .exit) ≡ bundleRead (now (bundle .entry)) (length (now («out_table» .entry))) (length (now («out_pool» .entry))) .table ⌝ }
+    ensures { λ _. ⌜ now («out_pool» .exit) ≡ bundleRead (now (bundle .entry)) (length (now («out_table» .entry))) (length (now («out_pool» .entry))) .pool ⌝ }
+{
+    answers::read(sessions::read(bundle, out_table, out_pool))
+}
+
+// Writes a table and its pool as a bundle. Success answers the bytes that it takes; the rest of the output is zero, and all of
+// it after a refusal.
+#[no_mangle]
+pub extern "C" fn noemathu_write(table: &[u32], pool: &[u8], out: &mut [u8]) -> Used
+    ensures { λ r. ⌜ r ≡ writtenGiven (tableWritten (now (table .entry)) (now (pool .entry)) (length (now (out .entry))) .answer) ⌝ }
+    ensures { λ _. ⌜ now (out .exit) ≡ tableWritten (now (table .entry)) (now (pool .entry)) (length (now (out .entry))) .bytes ⌝ }
+{
+    answers::written(transfers::write(table, pool, out))
+}

@@ -1,0 +1,86 @@
+-- What a normalization's buffers hold, and what is written from them.
+-- Assumes nothing.
+use Prim.Native.Nat.{ℕ, _*_}
+use mathlib.Core.Path.{_≡_, refl, sym, ap, _∙_, subst}
+use mathlib.Core.Bool.{true, false, true≢false}
+use mathlib.Core.List.{List}
+use mathlib.Core.Option.{Option, none, some}
+use native.Mathlib.Omega.{arith}
+use lib.ListN.{length, take}
+use Rattle.rules.specs.Table.{WIDTH, MOST-ROWS, MOST-BYTES, nodes, words}
+use Rattle.rules.specs.Refusals.{unlessRefused, checkRefusal, checked}
+use Rattle.rules.specs.Normalization.{State, Outcome, normalForm, refusal, success, normalizationRefusal, normalized}
+use Rattle.rules.specs.declared.Refusal.{Refusal}
+use Rattle.rules.specs.declared.Checked.{Checked}
+use Rattle.rules.specs.declared.Normalized.{Normalized}
+use Rattle.rules.specs.declared.Written.{Written}
+use Rattle.rules.proofs.Refusals.{verdict-accepted, verdict-refused}
+use Rattle.rules.proofs.Accepted.{Sized, unrefused}
+use Rattle.rules.proofs.Table.{length-words}
+use Rattle.normalizer.specs.Result.{Holds}
+use Rattle.bundles.specs.Bundles.{writeBundle}
+use Rattle.bundles.specs.Operations.{WriteOutcome, writeRefused, bundleWritten, tableWritten, stateBundle, normalizedInto}
+use Rattle.bundles.proofs.Demand3.{few-rows, few-bytes}
+
+-- What a call answers and leaves is an outcome.
+abbrev pub Leaves : WriteOutcome → Written → List ℕ → Type 0
+Leaves outcome answer out = (answer ≡ outcome .answer) × (out ≡ outcome .bytes)
+
+-- Writing a table.
+module _ (table pool : List ℕ) (size : ℕ) where
+  pub sized-table : {drawn : Checked} → drawn ≡ checked table pool → drawn ≡ Checked.Accepted → Sized table pool
+  unfolding checked
+  sized-table is e = unrefused table pool (verdict-accepted (checkRefusal table pool) (sym is ∙ e)) .size
+
+  pub table-done : {drawn : Checked} → drawn ≡ checked table pool → drawn ≡ Checked.Accepted → {answer : Written} {out : List ℕ} → Leaves (bundleWritten none size (writeBundle table pool)) answer out → Leaves (tableWritten table pool size) answer out
+  unfolding checked tableWritten
+  table-done is e given = rw (verdict-accepted (checkRefusal table pool) (sym is ∙ e)) given
+
+  pub table-refused : {drawn : Checked} → drawn ≡ checked table pool → (x : Refusal) → drawn ≡ Checked.Refused x → {answer : Written} {out : List ℕ} → Leaves (writeRefused size x) answer out → Leaves (tableWritten table pool size) answer out
+  unfolding checked tableWritten bundleWritten
+  table-refused is x e given = rw (verdict-refused (checkRefusal table pool) x (sym is ∙ e)) given
+
+-- Normalizing a table.
+module _ (table pool : List ℕ) where
+  abbrev outcome : Outcome
+  outcome = normalized table pool (WIDTH * MOST-ROWS) MOST-BYTES
+
+  abbrev result : State
+  result = normalForm (nodes table pool) pool
+
+  refused-case : (o : Option Refusal) (x : Refusal) → Normalized.Refused x ≡ unlessRefused o (refusal (WIDTH * MOST-ROWS) MOST-BYTES) (success (WIDTH * MOST-ROWS) MOST-BYTES result) .answer → o ≡ some x
+  unfolding refusal success
+  refused-case none x e = cc
+  refused-case (some y) x e = cc
+
+  pub normalized-refused : (size : ℕ) {given : Normalized} → given ≡ outcome .answer → (x : Refusal) → given ≡ Normalized.Refused x → {answer : Written} {out : List ℕ} → Leaves (writeRefused size x) answer out → Leaves (normalizedInto table pool size) answer out
+  unfolding normalized normalizedInto bundleWritten
+  normalized-refused size is x e left = rw (refused-case (normalizationRefusal table pool (WIDTH * MOST-ROWS) MOST-BYTES) x (sym e ∙ is)) left
+
+  done-case : (o : Option Refusal) (rows bytes : ℕ) → Normalized.Done rows bytes ≡ unlessRefused o (refusal (WIDTH * MOST-ROWS) MOST-BYTES) (success (WIDTH * MOST-ROWS) MOST-BYTES result) .answer → o ≡ none
+  unfolding refusal success
+  done-case none rows bytes e = refl
+  done-case (some y) rows bytes e = absurd (let bad : true ≡ false = cc in true≢false bad)
+
+  -- It is done, and its result stands in the buffers.
+  module _ {given : Normalized} (is : given ≡ outcome .answer) (rows bytes : ℕ) (e : given ≡ Normalized.Done rows bytes) {buffer work : List ℕ} (has : Holds buffer work rows bytes result) where
+    unrefused-result : normalizationRefusal table pool (WIDTH * MOST-ROWS) MOST-BYTES ≡ none
+    unfolding normalized
+    unrefused-result = done-case (normalizationRefusal table pool (WIDTH * MOST-ROWS) MOST-BYTES) rows bytes (sym e ∙ is)
+
+    pub sized-result : Sized (take (WIDTH * rows) buffer) (take bytes work)
+    sized-result =
+        let long = ap length (has .words) ∙ length-words (result .rows) in
+        let few = few-rows table pool unrefused-result in
+        record {
+          whole = omega arith;
+          tableBound = omega arith;
+          poolBound = rw (has .held) (few-bytes table pool unrefused-result);
+        }
+
+    pub normalized-done : (size : ℕ) {answer : Written} {out : List ℕ} → Leaves (bundleWritten none size (writeBundle (take (WIDTH * rows) buffer) (take bytes work))) answer out → Leaves (normalizedInto table pool size) answer out
+    unfolding normalizedInto stateBundle
+    normalized-done size {answer} {out} left =
+        rw unrefused-result
+        (subst (λ (bundle : List ℕ). Leaves (bundleWritten none size bundle) answer out)
+        (ap (λ (t : List ℕ). writeBundle t (take bytes work)) (has .words) ∙ ap (writeBundle (words (result .rows))) (has .held)) left)
