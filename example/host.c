@@ -1,0 +1,199 @@
+/* A host's work: two makers hand over their nodes, each as a bundle of its own. The host grafts both into one session
+   bundle, asks what a prefix means at a node, normalizes the session, and asks again.
+
+   The tree is printed as XML with the namespace URI of each name in braces. Those are what the makers meant; before
+   normalization the declarations say something else. */
+#include <noemathu.h>
+#include <stdio.h>
+#include <stdlib.h>
+#include <string.h>
+
+/* A table and a pool that grow. */
+struct nodes {
+    uint32_t table[NOEMATHU_MOST_WORDS];
+    uint8_t pool[NOEMATHU_MOST_POOL];
+    size_t rows, held;
+};
+
+struct bundle {
+    uint8_t bytes[NOEMATHU_BUNDLE_MOST];
+    size_t length;
+};
+
+static void stop_if(noemathu_refusal refusal)
+{
+    if (refusal.number == NOEMATHU_NOT_REFUSED)
+        return;
+    printf("refusal %u, row %u: %s\n", refusal.number, refusal.row, noemathu_text(refusal.number));
+    exit(1);
+}
+
+static noemathu_place put(struct nodes *nodes, const char *text)
+{
+    return noemathu_put_bytes(nodes->pool, sizeof nodes->pool, &nodes->held, text, strlen(text));
+}
+
+static uint32_t add_row(struct nodes *nodes, noemathu_row row)
+{
+    if (nodes->rows == NOEMATHU_MOST_ROWS)
+        stop_if((noemathu_refusal){NOEMATHU_REFUSED_SIZE, 0});
+    noemathu_put_row(nodes->table, nodes->rows, row);
+    return (uint32_t)nodes->rows++;
+}
+
+static uint32_t add(struct nodes *nodes, uint32_t type, uint32_t parent, const char *prefix, const char *local_name,
+                    const char *uri, const char *value)
+{
+    noemathu_row row = {.type = type, .parent = parent};
+    row.prefix = put(nodes, prefix);
+    row.local_name = put(nodes, local_name);
+    row.uri = put(nodes, uri);
+    row.value = put(nodes, value);
+    return add_row(nodes, row);
+}
+
+static void write_bundle(const struct nodes *nodes, struct bundle *out)
+{
+    noemathu_used used = noemathu_write(nodes->table, NOEMATHU_ROW_WORDS * nodes->rows, nodes->pool, nodes->held,
+                                        out->bytes, sizeof out->bytes);
+    stop_if(used.refusal);
+    out->length = used.bytes;
+}
+
+/* The first maker's nodes declare the prefix that they use. */
+static void make_order(struct nodes *nodes)
+{
+    uint32_t order = add(nodes, NOEMATHU_ELEMENT, NOEMATHU_NONE, "p", "order", "urn:purchase", "");
+    add(nodes, NOEMATHU_DECLARATION, order, "", "p", "", "urn:purchase");
+    uint32_t item = add(nodes, NOEMATHU_ELEMENT, order, "p", "item", "urn:purchase", "");
+    add(nodes, NOEMATHU_TEXT, item, "", "", "", "a bicycle");
+}
+
+/* The second maker's nodes were cut out of a larger tree, and their declarations stayed behind. One prefix is the first
+   maker's too, and one attribute has a URI and no prefix. */
+static void make_person(struct nodes *nodes)
+{
+    uint32_t person = add(nodes, NOEMATHU_ELEMENT, NOEMATHU_NONE, "p", "person", "urn:people", "");
+    add(nodes, NOEMATHU_ATTRIBUTE, person, "p", "since", "urn:people", "2019");
+    add(nodes, NOEMATHU_ATTRIBUTE, person, "", "role", "urn:roles", "rider");
+    uint32_t name = add(nodes, NOEMATHU_ELEMENT, person, "", "name", "", "");
+    add(nodes, NOEMATHU_TEXT, name, "", "", "", "Ada");
+}
+
+/* Grafts the rows of a bundle under a row: row numbers and offsets move up by what is there already. Answers where the
+   first of them stands. */
+static uint32_t graft(struct nodes *nodes, uint32_t under, const struct bundle *from)
+{
+    uint32_t rows = (uint32_t)nodes->rows, held = (uint32_t)nodes->held;
+    stop_if(noemathu_check(from->bytes, from->length));
+    for (size_t i = 0; i < noemathu_row_count(from->bytes); i++) {
+        noemathu_row row = noemathu_row_of(from->bytes, i);
+        noemathu_place *fields[] = {&row.prefix, &row.local_name, &row.uri, &row.value};
+        row.parent = row.parent == NOEMATHU_NONE ? under : row.parent + rows;
+        for (size_t k = 0; k < 4; k++)
+            if (fields[k]->length > 0)
+                fields[k]->offset += held;
+        add_row(nodes, row);
+    }
+    noemathu_put_bytes(nodes->pool, sizeof nodes->pool, &nodes->held, noemathu_pool(from->bytes),
+                       noemathu_pool_length(from->bytes));
+    return rows;
+}
+
+static void print_place(const struct bundle *bundle, noemathu_place place)
+{
+    printf("%.*s", (int)place.length, (const char *)noemathu_bytes(bundle->bytes, place));
+}
+
+static void print_name(const struct bundle *bundle, noemathu_row row)
+{
+    print_place(bundle, row.prefix);
+    fputs(row.prefix.length > 0 ? ":" : "", stdout);
+    print_place(bundle, row.local_name);
+    fputs("{", stdout);
+    print_place(bundle, row.uri);
+    fputs("}", stdout);
+}
+
+/* An attribute or a declaration, as it stands in a start tag. */
+static void print_owned(const struct bundle *bundle, noemathu_row row)
+{
+    if (row.type == NOEMATHU_DECLARATION) {
+        fputs(row.local_name.length > 0 ? " xmlns:" : " xmlns", stdout);
+        print_place(bundle, row.local_name);
+    } else {
+        fputs(" ", stdout);
+        print_name(bundle, row);
+    }
+    fputs("=\"", stdout);
+    print_place(bundle, row.value);
+    fputs("\"", stdout);
+}
+
+static bool is_owned(noemathu_row row)
+{
+    return row.type == NOEMATHU_DECLARATION || row.type == NOEMATHU_ATTRIBUTE;
+}
+
+/* The rows under a row, a line for each child. */
+static void print_children(const struct bundle *bundle, uint32_t parent, int depth)
+{
+    size_t rows = noemathu_row_count(bundle->bytes);
+    for (uint32_t i = 0; i < rows; i++) {
+        noemathu_row row = noemathu_row_of(bundle->bytes, i);
+        if (row.parent != parent || is_owned(row))
+            continue;
+        printf("%*s", 4 * depth, "");
+        if (row.type != NOEMATHU_ELEMENT) {
+            print_place(bundle, row.value);
+            puts("");
+            continue;
+        }
+        fputs("<", stdout);
+        print_name(bundle, row);
+        for (size_t k = 0; k < rows; k++) {
+            noemathu_row owned = noemathu_row_of(bundle->bytes, k);
+            if (owned.parent == i && is_owned(owned))
+                print_owned(bundle, owned);
+        }
+        puts(">");
+        print_children(bundle, i, depth + 1);
+    }
+}
+
+/* The tree, and what a prefix means at a row of it by the declarations in scope. */
+static void show(const char *title, const struct bundle *bundle, uint32_t row, const char *prefix)
+{
+    noemathu_found found =
+        noemathu_in_scope_uri(bundle->bytes, bundle->length, row, (const uint8_t *)prefix, strlen(prefix));
+    stop_if(found.refusal);
+    printf("%s, %zu bytes:\n", title, bundle->length);
+    print_children(bundle, NOEMATHU_NONE, 1);
+    printf("at row %u the prefix %s means ", row, prefix);
+    print_place(bundle, found.place);
+    puts(found.found == NOEMATHU_PLACE ? "\n" : "nothing\n");
+}
+
+int main(void)
+{
+    static struct nodes order, person, nodes;
+    static struct bundle maker, session, normalized;
+    uint32_t root = add(&nodes, NOEMATHU_ELEMENT, NOEMATHU_NONE, "", "session", "urn:session", "");
+
+    make_order(&order);
+    write_bundle(&order, &maker);
+    uint32_t first = graft(&nodes, root, &maker);
+
+    make_person(&person);
+    write_bundle(&person, &maker);
+    uint32_t second = graft(&nodes, first, &maker);
+
+    write_bundle(&nodes, &session);
+    show("before", &session, second, "p");
+
+    noemathu_used used = noemathu_normalize(session.bytes, session.length, normalized.bytes, sizeof normalized.bytes);
+    stop_if(used.refusal);
+    normalized.length = used.bytes;
+    show("after", &normalized, second, "p");
+    return 0;
+}

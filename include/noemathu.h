@@ -1,0 +1,502 @@
+/* noemathu.h: XML namespaces in a session bundle, over memory that you lend.
+
+   A session bundle is a tree of XML nodes as one string of bytes. The functions
+   here check a bundle, tell what a prefix or a namespace URI means at a node,
+   and normalize a bundle: they set and add namespace declarations so that every
+   element and attribute means the URI that its maker gave it. Two more turn a
+   bundle into rows and names, and back.
+
+   Link with -lnoemathu, or see `pkg-config --cflags --libs noemathu`. The
+   library is for x86-64 and calls nothing but the C library's memory functions.
+
+
+   Ten words to a row
+   ------------------
+
+   A node is a row of ten 32-bit words. Names, URIs and values are bytes in a
+   pool, and a row says where: by an offset in the pool and a length.
+
+     word  0     the type of the node: NOEMATHU_ELEMENT and so on
+     word  1     the row of its parent, which is always an earlier row; for an
+                 attribute or a declaration the element that owns it; or
+                 NOEMATHU_NONE
+     words 2, 3  prefix:         offset, length
+     words 4, 5  local name:     offset, length
+     words 6, 7  namespace URI:  offset, length
+     words 8, 9  value:          offset, length
+
+   Rows count from 0. Length 0 means that the node has none of it, and the
+   offset is then 0. Rows of one owner need not be adjacent; their order is row
+   order. Several rows may refer to the same bytes of the pool. There are at most
+   1,024 rows and 32,768 pool bytes.
+
+   A namespace declaration is a row of its own, of type 13: its local name is the
+   declared prefix, empty for the default namespace, and its value is the URI.
+   So xmlns:p="urn:x" at row 0 is a row of type 13 with parent 0, local name `p`
+   and value `urn:x`; its prefix and URI fields are empty.
+
+   What each type may stand under, and the fields that it may use; any but a
+   declaration may also stand alone, with the parent NOEMATHU_NONE:
+
+     type                            under                        fields
+     1 element                       element, 5, 9, 11            all but value
+     2 attribute                     element                      all
+     3 text, 4 CDATA,
+     5 entity reference              element, 5, 11               value
+     6 entity, 12 notation           10                           value
+     7 instruction, 8 comment        element, 5, 9, 11            value
+     9 document, 11 fragment         nothing                      value
+     10 document type                9                            value
+     13 declaration                  element                      local name, value
+     257 element, 258 attribute      as 1 and 2                   local name; 258 value
+
+   A document has at most one element. Types 257 and 258 were made without a
+   namespace (DOM Level 1): the whole name, with a colon or not, stands in the
+   local name. Prefixes and local names are ASCII letters, digits, `-`, `.`, `_`
+   and bytes from 128 on, and begin with no digit, `-` or `.`. URIs and values are
+   any bytes, and URIs are compared byte by byte.
+
+
+   A bundle, byte by byte
+   ----------------------
+
+   All numbers are little-endian, on every machine.
+
+     bytes  0 to  2   the mark, `NTB`
+     bytes  3 and 4   the version, 1
+     byte   5         zero
+     bytes  6 and 7   how many rows
+     bytes  8 to 11   how many pool bytes
+     from byte 12     the rows, 40 bytes each
+     behind them      the pool; nothing stands behind it
+
+   An element `a` with the URI `U`, no prefix and no parent is this bundle of 54
+   bytes, in hexadecimal:
+
+     4e 54 42  01 00  00  01 00  02 00 00 00     NTB, 1, 0, one row, two bytes
+     01 00 00 00  ff ff ff ff                    row 0: an element, NOEMATHU_NONE
+     00 00 00 00  00 00 00 00                      no prefix
+     00 00 00 00  01 00 00 00                      local name: at 0, 1 byte
+     01 00 00 00  01 00 00 00                      URI: at 1, 1 byte
+     00 00 00 00  00 00 00 00                      no value
+     61 55                                       the pool, `aU`
+
+   Nothing there declares that the default namespace is `U`. noemathu_normalize
+   appends the declaration, which refers to the URI's bytes where they stand:
+
+     0d 00 00 00  00 00 00 00                    row 1: a declaration of row 0
+     00 00 00 00  00 00 00 00
+     00 00 00 00  00 00 00 00                      for the empty prefix
+     00 00 00 00  00 00 00 00
+     01 00 00 00  01 00 00 00                      value: at 1, 1 byte
+
+
+   Memory
+   ------
+
+   You lend all memory, for the time of the call. Nothing is allocated, kept or
+   freed; there is no global state. Calls may run at once in any threads, as long
+   as none writes to what another one uses.
+
+   - A buffer is a pointer and a length, in bytes; for a table, in words. A
+     pointer with length 0 is not followed and may be NULL. With another length
+     it must point to as many bytes or words.
+   - Bytes may start at any address. A table must be aligned as uint32_t is.
+   - What is read is never written to. Inputs may overlap each other: the prefix
+     that you ask about may stand in the bundle that you ask.
+   - An output must overlap nothing, neither an input nor another output. To
+     replace a bundle by its normalized one, copy it back.
+   - An output is always written whole. After success the result stands at its
+     start, and all that is left over is zero. After a refusal all of it is zero.
+   - NOEMATHU_STACK bytes of stack are enough for any call.
+
+
+   Answers
+   -------
+
+   Every function takes any bytes whatever, judges the whole bundle or table
+   first, and always returns; a lookup costs little more than that judgement.
+   Each answer begins with a refusal: its number, 0 if the call was not refused,
+   and the row that is at fault, 0 where no row is. The rest of a refused answer
+   is 0: nothing found, no, nothing used.
+
+   The first fault is named. The numbers are tried in this order: 30, 31, 32; 1;
+   then row after row, each for 2 to 7; then 8, 9, 10, 11; then 33.
+
+   What was found is told by its place, an offset and a length in the pool of the
+   bundle that was asked: see noemathu_bytes. */
+
+#ifndef NOEMATHU_H
+#define NOEMATHU_H
+
+#include <stdbool.h>
+#include <stddef.h>
+#include <stdint.h>
+#include <string.h>
+
+#ifdef __cplusplus
+extern "C" {
+#endif
+
+#define NOEMATHU_VERSION "0.1.0"
+
+/* The limits of a table, and of a bundle: 73,740 bytes. */
+#define NOEMATHU_ROW_WORDS 10
+#define NOEMATHU_MOST_ROWS 1024
+#define NOEMATHU_MOST_WORDS (NOEMATHU_ROW_WORDS * NOEMATHU_MOST_ROWS)
+#define NOEMATHU_MOST_POOL 32768
+#define NOEMATHU_BUNDLE_HEADER 12
+#define NOEMATHU_BUNDLE_MOST NOEMATHU_BUNDLE_BYTES(NOEMATHU_MOST_ROWS, NOEMATHU_MOST_POOL)
+
+/* The bytes of a bundle of so many rows and pool bytes. */
+#define NOEMATHU_BUNDLE_BYTES(rows, pool_bytes) \
+    (NOEMATHU_BUNDLE_HEADER + 4 * NOEMATHU_ROW_WORDS * (size_t)(rows) + (size_t)(pool_bytes))
+
+/* Bytes of stack that are enough for any call. Measured were at most 12,568 for
+   noemathu_write, 53,640 for noemathu_check and noemathu_read, 106,976 for the
+   lookups and 236,752 for noemathu_normalize. */
+#define NOEMATHU_STACK 262144
+
+/* The parent of a row that has none. */
+#define NOEMATHU_NONE UINT32_C(4294967295)
+
+/* The types of nodes: those of DOM, a declaration, and two of DOM Level 1. */
+#define NOEMATHU_ELEMENT 1
+#define NOEMATHU_ATTRIBUTE 2
+#define NOEMATHU_TEXT 3
+#define NOEMATHU_CDATA 4
+#define NOEMATHU_ENTITY_REFERENCE 5
+#define NOEMATHU_ENTITY 6
+#define NOEMATHU_INSTRUCTION 7
+#define NOEMATHU_COMMENT 8
+#define NOEMATHU_DOCUMENT 9
+#define NOEMATHU_DOCUMENT_TYPE 10
+#define NOEMATHU_FRAGMENT 11
+#define NOEMATHU_NOTATION 12
+#define NOEMATHU_DECLARATION 13
+#define NOEMATHU_LEVEL1_ELEMENT 257
+#define NOEMATHU_LEVEL1_ATTRIBUTE 258
+
+/* The two prefixes that are bound everywhere, `xml` and `xmlns`, have these URIs. */
+#define NOEMATHU_XML_URI "http://www.w3.org/XML/1998/namespace"
+#define NOEMATHU_XMLNS_URI "http://www.w3.org/2000/xmlns/"
+
+
+/* Refusals, what they mean, and what to do. */
+
+/* Not refused. */
+#define NOEMATHU_NOT_REFUSED 0
+
+/* The words are no whole rows, or there are more than 1,024 rows or 32,768 pool
+   bytes. Hand in whole rows; split the tree. */
+#define NOEMATHU_REFUSED_SIZE 1
+
+/* The row's type is unknown, its parent is no earlier row or of a type that
+   cannot hold it, or it is a second element under one document. Put parents
+   before their children; graft under an element or a fragment. */
+#define NOEMATHU_REFUSED_STRUCTURE 2
+
+/* A field of the row runs past the pool, a length of 0 has an offset, or a field
+   is used that this type does not have. Mend the row's offsets and lengths. */
+#define NOEMATHU_REFUSED_FIELDS 3
+
+/* The element or attribute has no local name, or a prefix or local name holds a
+   byte that no name may hold. Mend the name; a whole name with a colon belongs
+   to types 257 and 258. */
+#define NOEMATHU_REFUSED_NAMES 4
+
+/* The element or attribute has a prefix and no URI, or uses `xml`, `xmlns` or
+   one of their URIs as the namespace rules forbid. Give it its URI; write what
+   declares a namespace as a row of type 13. */
+#define NOEMATHU_REFUSED_NAMESPACE 5
+
+/* The declaration rebinds `xml` or `xmlns`, binds another prefix to one of their
+   URIs, or takes the URI away from a prefix. Remove it. */
+#define NOEMATHU_REFUSED_DECLARATION 6
+
+/* The row's owner has an earlier declaration of the same prefix, or an earlier
+   attribute of the same name. Remove one of the two. */
+#define NOEMATHU_REFUSED_DOUBLE 7
+
+/* The row asked about is not in the bundle. Ask about one of its rows. */
+#define NOEMATHU_REFUSED_NO_SUCH_ROW 8
+
+/* A row of type 257 or 258, which has no namespace to keep, stands in what is to
+   be normalized. Make it a row of type 1 or 2, with its URI. */
+#define NOEMATHU_REFUSED_LEVEL1 9
+
+/* The result has more rows than the output table, or than 1,024. Lend a larger
+   table; split the tree. */
+#define NOEMATHU_REFUSED_ROW_ROOM 10
+
+/* The result has more pool bytes than the output pool, or than 32,768. Lend a
+   larger pool; split the tree. */
+#define NOEMATHU_REFUSED_POOL_ROOM 11
+
+/* The bytes do not begin with `NTB`. This is no bundle. */
+#define NOEMATHU_REFUSED_MARK 30
+
+/* The version is not 1, or the bytes end before it. Ask for a newer library. */
+#define NOEMATHU_REFUSED_VERSION 31
+
+/* The bytes are more or fewer than the header says, or byte 5 is not zero. The
+   bundle was cut, lengthened or damaged: get it anew. */
+#define NOEMATHU_REFUSED_LENGTHS 32
+
+/* The output is too short for the bundle. Lend NOEMATHU_BUNDLE_MOST bytes, or
+   for noemathu_normalize what noemathu_room says. */
+#define NOEMATHU_REFUSED_BUNDLE_ROOM 33
+
+/* What a refusal's number means, in a few words. */
+static inline const char *noemathu_text(uint32_t number)
+{
+    switch (number) {
+    case NOEMATHU_NOT_REFUSED: return "not refused";
+    case NOEMATHU_REFUSED_SIZE: return "not whole rows, or more than 1,024 rows or 32,768 pool bytes";
+    case NOEMATHU_REFUSED_STRUCTURE: return "unknown type, or a parent that cannot be this row's";
+    case NOEMATHU_REFUSED_FIELDS: return "a field that runs past the pool or must be empty";
+    case NOEMATHU_REFUSED_NAMES: return "a name that is missing or holds a bad byte";
+    case NOEMATHU_REFUSED_NAMESPACE: return "a prefix without a URI, or xml or xmlns misused";
+    case NOEMATHU_REFUSED_DECLARATION: return "a declaration that the namespace rules forbid";
+    case NOEMATHU_REFUSED_DOUBLE: return "a second declaration or attribute of one name";
+    case NOEMATHU_REFUSED_NO_SUCH_ROW: return "no such row";
+    case NOEMATHU_REFUSED_LEVEL1: return "a DOM Level 1 node cannot be normalized";
+    case NOEMATHU_REFUSED_ROW_ROOM: return "too many rows for the result";
+    case NOEMATHU_REFUSED_POOL_ROOM: return "too many pool bytes for the result";
+    case NOEMATHU_REFUSED_MARK: return "no bundle: it does not begin with NTB";
+    case NOEMATHU_REFUSED_VERSION: return "a bundle of another version";
+    case NOEMATHU_REFUSED_LENGTHS: return "a bundle that was cut, lengthened or damaged";
+    case NOEMATHU_REFUSED_BUNDLE_ROOM: return "too few bytes for the bundle";
+    default: return "unknown refusal";
+    }
+}
+
+
+/* The answers. */
+
+/* The number of the refusal and the row at fault; 0 and 0 if not refused. */
+typedef struct noemathu_refusal {
+    uint32_t number;
+    uint32_t row;
+} noemathu_refusal;
+
+/* A part of the pool; length 0, with offset 0, is none. */
+typedef struct noemathu_place {
+    uint32_t offset;
+    uint32_t length;
+} noemathu_place;
+
+/* What a lookup found: one of the four kinds below, and for NOEMATHU_PLACE where
+   it stands in the bundle's pool. */
+typedef struct noemathu_found {
+    noemathu_refusal refusal;
+    uint32_t found;
+    noemathu_place place;
+} noemathu_found;
+
+#define NOEMATHU_NOTHING 0
+#define NOEMATHU_PLACE 1
+#define NOEMATHU_BUILT_IN_XML 2   /* the prefix `xml`, or its URI */
+#define NOEMATHU_BUILT_IN_XMLNS 3 /* the prefix `xmlns`, or its URI */
+
+/* Yes or no. */
+typedef struct noemathu_tested {
+    noemathu_refusal refusal;
+    bool yes;
+} noemathu_tested;
+
+/* How many rows of the output table and bytes of the output pool are used. */
+typedef struct noemathu_sizes {
+    noemathu_refusal refusal;
+    size_t rows;
+    size_t bytes;
+} noemathu_sizes;
+
+/* How many bytes of the output are used: the length of the bundle. */
+typedef struct noemathu_used {
+    noemathu_refusal refusal;
+    size_t bytes;
+} noemathu_used;
+
+
+/* The functions. */
+
+/* Judges a bundle. Refusals: 30 to 32, 1 to 7. A bundle that is accepted here is
+   accepted by all others too, apart from 8 to 11 and 33. */
+noemathu_refusal noemathu_check(const uint8_t *bundle, size_t length);
+
+/* The lookups start at an element. From an attribute or a declaration that is its
+   owner; from a document its element; from an entity, a document type, a
+   fragment or a notation none, and nothing is found; from all others the nearest
+   element around. A prefix or a URI that you ask about may be any bytes. */
+
+/* The URI that a prefix means at a row, by the names and declarations of the
+   elements there and outward; the empty prefix is the default namespace. Found:
+   a place or nothing; the lookup of DOM Level 3, for which `xml` and `xmlns` are
+   like any prefix. Refusals: 30 to 32, 1 to 7, 8. */
+noemathu_found noemathu_uri_of_prefix(const uint8_t *bundle, size_t length, uint32_t row,
+                                      const uint8_t *prefix, size_t prefix_length);
+
+/* A prefix that means a URI at a row; never the empty one. Found: a place or
+   nothing. Refusals: 30 to 32, 1 to 7, 8. */
+noemathu_found noemathu_prefix_of_uri(const uint8_t *bundle, size_t length, uint32_t row,
+                                      const uint8_t *uri, size_t uri_length);
+
+/* Whether a URI is the default namespace at a row. The empty URI is, where an
+   element without prefix and URI or an empty default declaration is met first;
+   where nothing decides, no URI is. Refusals: 30 to 32, 1 to 7, 8. */
+noemathu_tested noemathu_is_default(const uint8_t *bundle, size_t length, uint32_t row,
+                                    const uint8_t *uri, size_t uri_length);
+
+/* The in-scope URI of a prefix at a row: by declarations alone, as a reader of
+   the written XML sees it. Found: a place, nothing, or for `xml` and `xmlns` a
+   built-in, whose URIs are NOEMATHU_XML_URI and NOEMATHU_XMLNS_URI. Refusals: 30
+   to 32, 1 to 7, 8. */
+noemathu_found noemathu_in_scope_uri(const uint8_t *bundle, size_t length, uint32_t row,
+                                     const uint8_t *prefix, size_t prefix_length);
+
+/* An in-scope prefix of a URI at a row, by declarations alone; never the empty
+   one. Found: a place, nothing, or a built-in. Refusals: 30 to 32, 1 to 7, 8. */
+noemathu_found noemathu_in_scope_prefix(const uint8_t *bundle, size_t length, uint32_t row,
+                                        const uint8_t *uri, size_t uri_length);
+
+/* Normalizes a bundle into another one. The rows keep their numbers; what is
+   changed is the values of declarations and the prefixes of attributes, and new
+   declarations stand behind the rows, new prefixes (`xml`, `NS1`) behind the
+   pool. Afterwards the in-scope URI of every element's and every owned
+   attribute's prefix is its URI. Refusals: 30 to 32, 1 to 7, 9; 10 and 11 where
+   the result is beyond the limits of a table; 33. */
+noemathu_used noemathu_normalize(const uint8_t *bundle, size_t length,
+                                 uint8_t *out, size_t out_size);
+
+/* Reads a bundle into a table and a pool. Refusals: 30 to 32, 1 to 7; 10 where
+   the table has too few whole rows, 11 where the pool is too short. */
+noemathu_sizes noemathu_read(const uint8_t *bundle, size_t length,
+                             uint32_t *table, size_t table_words, uint8_t *pool, size_t pool_size);
+
+/* Writes a table and its pool as a bundle. What noemathu_read reads and
+   noemathu_write writes is the same, byte for byte and word for word. Refusals:
+   1 to 7, 33. */
+noemathu_used noemathu_write(const uint32_t *table, size_t table_words,
+                             const uint8_t *pool, size_t pool_size, uint8_t *out, size_t out_size);
+
+
+/* Helpers. Those that look into a bundle ask for one that a function here has
+   accepted or written. */
+
+/* A row by the names of its fields. */
+typedef struct noemathu_row {
+    uint32_t type;
+    uint32_t parent;
+    noemathu_place prefix;
+    noemathu_place local_name;
+    noemathu_place uri;
+    noemathu_place value;
+} noemathu_row;
+
+/* The number in so many little-endian bytes. */
+static inline uint32_t noemathu_number(const uint8_t *bytes, size_t count)
+{
+    uint32_t number = 0;
+    while (count > 0)
+        number = number << 8 | bytes[--count];
+    return number;
+}
+
+/* How many rows a bundle has. */
+static inline size_t noemathu_row_count(const uint8_t *bundle)
+{
+    return noemathu_number(bundle + 6, 2);
+}
+
+/* How many bytes its pool has. */
+static inline size_t noemathu_pool_length(const uint8_t *bundle)
+{
+    return noemathu_number(bundle + 8, 4);
+}
+
+/* Its pool. */
+static inline const uint8_t *noemathu_pool(const uint8_t *bundle)
+{
+    return bundle + NOEMATHU_BUNDLE_BYTES(noemathu_row_count(bundle), 0);
+}
+
+/* The bytes of a place in its pool; they do not end in a zero. */
+static inline const uint8_t *noemathu_bytes(const uint8_t *bundle, noemathu_place place)
+{
+    return noemathu_pool(bundle) + place.offset;
+}
+
+/* A word, 0 to 9, of one of its rows. */
+static inline uint32_t noemathu_word(const uint8_t *bundle, size_t row, size_t word)
+{
+    return noemathu_number(bundle + NOEMATHU_BUNDLE_BYTES(row, 4 * word), 4);
+}
+
+/* One of its rows. */
+static inline noemathu_row noemathu_row_of(const uint8_t *bundle, size_t row)
+{
+    noemathu_row given;
+    given.type = noemathu_word(bundle, row, 0);
+    given.parent = noemathu_word(bundle, row, 1);
+    given.prefix.offset = noemathu_word(bundle, row, 2);
+    given.prefix.length = noemathu_word(bundle, row, 3);
+    given.local_name.offset = noemathu_word(bundle, row, 4);
+    given.local_name.length = noemathu_word(bundle, row, 5);
+    given.uri.offset = noemathu_word(bundle, row, 6);
+    given.uri.length = noemathu_word(bundle, row, 7);
+    given.value.offset = noemathu_word(bundle, row, 8);
+    given.value.length = noemathu_word(bundle, row, 9);
+    return given;
+}
+
+/* Bytes that are enough for what noemathu_normalize makes of it: each row adds at
+   most a row and six pool bytes. */
+static inline size_t noemathu_room(const uint8_t *bundle)
+{
+    size_t rows = noemathu_row_count(bundle), bytes = noemathu_pool_length(bundle);
+    size_t room = NOEMATHU_BUNDLE_BYTES(2 * rows, bytes + 6 * rows);
+    return room < NOEMATHU_BUNDLE_MOST ? room : NOEMATHU_BUNDLE_MOST;
+}
+
+/* Fills in a row of a table for noemathu_write. */
+static inline void noemathu_put_row(uint32_t *table, size_t row, noemathu_row given)
+{
+    uint32_t *words = table + NOEMATHU_ROW_WORDS * row;
+    words[0] = given.type;
+    words[1] = given.parent;
+    words[2] = given.prefix.offset;
+    words[3] = given.prefix.length;
+    words[4] = given.local_name.offset;
+    words[5] = given.local_name.length;
+    words[6] = given.uri.offset;
+    words[7] = given.uri.length;
+    words[8] = given.value.offset;
+    words[9] = given.value.length;
+}
+
+/* Puts bytes behind those that a pool of some size holds already, and tells their
+   place; none for no bytes. Where they do not fit, nothing is put, and the place
+   lies beyond the pool: a row that has it is refused with 3. */
+static inline noemathu_place noemathu_put_bytes(uint8_t *pool, size_t size, size_t *held,
+                                                const void *bytes, size_t length)
+{
+    noemathu_place place = {0, 0};
+    if (length == 0)
+        return place;
+    if (*held > size || length > size - *held || length > UINT32_MAX || *held > UINT32_MAX) {
+        place.offset = place.length = UINT32_MAX;
+        return place;
+    }
+    place.offset = (uint32_t)*held;
+    place.length = (uint32_t)length;
+    memcpy(pool + *held, bytes, length);
+    *held += length;
+    return place;
+}
+
+#ifdef __cplusplus
+}
+#endif
+
+#endif
