@@ -1,9 +1,8 @@
 #!/usr/bin/env python3
-"""Writes the tables that bench/measure counts instructions and bytes of stack on.
+"""Writes the bundles that bench/measure counts instructions and bytes of stack on.
 
 Usage: bench/tables.py DIR
 
-Each file holds, as little-endian 32-bit words, the number of words and of pool bytes, then the words, then the pool.
 The rows of a table for normalization are those of its result: the table is as much shorter as that adds rows.
 The tables are the same in every run: the generator is seeded, and uses only its own arithmetic.
 """
@@ -47,7 +46,7 @@ class Table:
     def write(self, path):
         words = [word for row in self.rows for word in row]
         with open(path, "wb") as out:
-            out.write(struct.pack("<II", len(words), len(self.pool)))
+            out.write(b"NTB" + struct.pack("<HBHI", 1, 0, len(self.rows), len(self.pool)))
             out.write(struct.pack("<%dI" % len(words), *words))
             out.write(self.pool)
 

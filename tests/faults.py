@@ -1,5 +1,6 @@
 """Wrong readings of the rules, each by one function of the reading that is replaced. A comparison that is worth its time
 finds every one of them."""
+import bundles
 import reading
 
 
@@ -76,8 +77,7 @@ def bytes_before_rows():
     right = reading.too_much
 
     def too_much(tree, out_words, out_bytes):
-        number, row = right(tree, reading.WIDTH * reading.MOST_ROWS, out_bytes)
-        return (number, row) if number == 11 else right(tree, out_words, out_bytes)
+        return (11, 0) if len(tree.pool) > min(reading.MOST_BYTES, out_bytes) else right(tree, out_words, out_bytes)
     reading.too_much = too_much
 
 
@@ -91,6 +91,88 @@ def shared_bytes():
     reading.in_pool = in_pool
 
 
+def big_endian():
+    """The numbers of a bundle have their highest byte first."""
+    bundles.ORDER = ">"
+
+
+def zero_byte_not_seen():
+    """The zero byte of a bundle may be any."""
+    bundles.zero_byte = lambda bytes: bytes.take(1, 32)
+
+
+def bytes_after():
+    """Bytes may stand after the pool."""
+    bundles.nothing_after = lambda bytes: None
+
+
+def version_before_mark():
+    """31 is tried before 30."""
+    def mark_and_version(bytes):
+        mark = bytes.take(len(bundles.MARK), 30)
+        if bytes.number("H", 31) != bundles.VERSION:
+            raise bundles.Refused(31)
+        if mark != bundles.MARK:
+            raise bundles.Refused(30)
+    bundles.mark_and_version = mark_and_version
+
+
+def cut_is_lengths():
+    """Bytes that end before the mark or the version is whole draw 32."""
+    right = bundles.mark_and_version
+
+    def mark_and_version(bytes):
+        if len(bytes.all) < 5:
+            raise bundles.Refused(32)
+        right(bytes)
+    bundles.mark_and_version = mark_and_version
+
+
+def limits_by_lengths():
+    """More rows or pool bytes than there may be draw 32."""
+    right = bundles.split
+
+    def split(bundle):
+        table, pool = right(bundle)
+        if reading.wrong_size(table, pool):
+            raise bundles.Refused(32)
+        return table, pool
+    bundles.split = split
+
+
+def room_before_limits():
+    """33 is tried before 10 and 11."""
+    right = bundles.normalize
+
+    def normalize(bundle, out_size):
+        number, row, used, out = right(bundle, out_size)
+        if number in (10, 11) and out_size < len(bundle):
+            return 33, row, used, out
+        return number, row, used, out
+    bundles.normalize = normalize
+
+
+def read_bytes_before_rows():
+    """The reader tries 11 before 10."""
+    def too_short(table, pool, out_words, out_bytes):
+        if len(pool) > out_bytes:
+            raise bundles.Refused(11)
+        if len(table) // reading.WIDTH > out_words // reading.WIDTH:
+            raise bundles.Refused(10)
+    bundles.too_short = too_short
+
+
+def rest_kept():
+    """What a written bundle leaves over of the output is not zero."""
+    def written(bundle, out_size):
+        if len(bundle) > out_size:
+            raise bundles.Refused(33)
+        return 0, 0, len(bundle), bundle + b"\xa5" * (out_size - len(bundle))
+    bundles.written = written
+
+
 FAULTS = {fault.__name__: fault for fault in (
     shadowed_prefix, shadowed_own_prefix, element_by_uri_lookup, default_serves_attribute, bound_prefix_declared,
-    level1_name_counts, names_by_offset, fields_before_structure, bytes_before_rows, shared_bytes)}
+    level1_name_counts, names_by_offset, fields_before_structure, bytes_before_rows, shared_bytes, big_endian,
+    zero_byte_not_seen, bytes_after, version_before_mark, cut_is_lengths, limits_by_lengths, room_before_limits,
+    read_bytes_before_rows, rest_kept)}

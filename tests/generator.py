@@ -318,7 +318,7 @@ def limits(random):
         full(maker, MOST_WORDS // 10 + about)
     elif what == "rows of the result":
         growing(maker, MOST_WORDS // 10 + about)
-        if random.random() < 0.3:
+        if random.random() < 0.6:
             # Too many bytes as well.
             maker.pool += bytes(MOST_BYTES - random.randint(0, 9) - len(maker.pool))
     else:
@@ -336,7 +336,7 @@ def limits(random):
     return table, bytes(maker.pool)
 
 
-KINDS = ((grafted, 40), (typical, 20), (damaged, 20), (wild, 10), (random_words, 9.7), (limits, 0.3))
+KINDS = ((grafted, 40), (typical, 20), (damaged, 20), (wild, 10), (random_words, 9), (limits, 1))
 
 
 def held(random, table, pool, words):

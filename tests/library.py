@@ -1,38 +1,97 @@
-"""The library behind the operations' names: a shared object made of the static one, called in this process.
+"""The library behind the names of tests/bundles.py: a shared object made of the static one, called in this process by
+the C interface.
 
     library = Library(path)
-    library.ask(operation, table, pool, *rest) -> what the library gives
-    library.shown(operation, answer) -> what it should give, of an answer of the reading
+    library.lend(bundle, table, pool, shift)    what the following calls read, at an address that is shifted by some bytes
+    library.ask(operation, *rest)               the whole answer, and every output buffer whole
+    library.taken_back()                        after the calls: whether what was lent is unchanged
 
-The exported functions give less than an operation answers: the number of a refusal, the length of what was found.
+Outputs are filled with a pattern before a call, and the margins around them must still hold it afterwards.
 """
 import ctypes
 import subprocess
 from array import array
 from pathlib import Path
 
-WORD, BYTES = ctypes.c_uint32, ctypes.c_void_p
-SIZE = ctypes.c_size_t
-TABLE_AND_POOL = [BYTES, SIZE, BYTES, SIZE]
-LOOKUP = TABLE_AND_POOL + [WORD, BYTES, SIZE]
+BYTES, SIZE, WORD = ctypes.c_void_p, ctypes.c_size_t, ctypes.c_uint32
 
-# An operation's function, its parameters, and its result.
+
+class Refusal(ctypes.Structure):
+    _fields_ = [("number", WORD), ("row", WORD)]
+
+
+class Place(ctypes.Structure):
+    _fields_ = [("offset", WORD), ("length", WORD)]
+
+
+class Found(ctypes.Structure):
+    _fields_ = [("refusal", Refusal), ("found", WORD), ("place", Place)]
+
+
+class Tested(ctypes.Structure):
+    _fields_ = [("refusal", Refusal), ("yes", ctypes.c_bool)]
+
+
+class Sizes(ctypes.Structure):
+    _fields_ = [("refusal", Refusal), ("rows", SIZE), ("bytes", SIZE)]
+
+
+class Used(ctypes.Structure):
+    _fields_ = [("refusal", Refusal), ("bytes", SIZE)]
+
+
+BUFFER = [BYTES, SIZE]
+LOOKUP = BUFFER + [WORD, ctypes.c_char_p, SIZE]
+
+# The parameters and the result of each operation.
 FUNCTIONS = {
-    "check": ("measured_check", TABLE_AND_POOL, WORD),
-    "uri_of_prefix": ("measured_uri", LOOKUP, SIZE),
-    "prefix_of_uri": ("measured_prefix", LOOKUP, SIZE),
-    "is_default": ("measured_default", LOOKUP, WORD),
-    "in_scope_uri": ("measured_in_scope_uri", LOOKUP, WORD),
-    "in_scope_prefix": ("measured_in_scope_prefix", LOOKUP, WORD),
-    "normalize": ("measured_normalize", TABLE_AND_POOL * 2, WORD),
+    "check": (BUFFER, Refusal),
+    "uri_of_prefix": (LOOKUP, Found),
+    "prefix_of_uri": (LOOKUP, Found),
+    "is_default": (LOOKUP, Tested),
+    "in_scope_uri": (LOOKUP, Found),
+    "in_scope_prefix": (LOOKUP, Found),
+    "normalize": (BUFFER * 2, Used),
+    "read": (BUFFER * 3, Sizes),
+    "write": (BUFFER * 3, Used),
 }
 
-# What stands in an output buffer before the call, and behind it before and after.
-MARK_WORD, MARK_BYTE, MARGIN = 0xA5A5A5A5, b"\xa5", 16
+MARGIN = 64
+MOST = 1 << 18
+PATTERN = b"\xa5" * MOST
 
 
 class Overrun(Exception):
     pass
+
+
+class Room:
+    """Memory to lend from. It stands at a multiple of 64."""
+
+    def __init__(self):
+        self.memory = memoryview(bytearray(MOST + 64))
+        address = ctypes.addressof(ctypes.c_char.from_buffer(self.memory))
+        self.memory = self.memory[-address % 64:][:MOST]
+        self.address = address + -address % 64
+        self.content, self.at, self.end = b"", 0, 0
+
+    def lend(self, length, shift, content=None):
+        """A pointer and a length; NULL for nothing. Around it stands the pattern, and in it, if nothing else does."""
+        self.at, self.end = MARGIN + shift, MARGIN + shift + length
+        self.memory[:self.end + MARGIN] = PATTERN[:self.end + MARGIN]
+        if content:
+            self.memory[self.at:self.end] = content
+        self.content = content
+        return self.address + self.at if length else None, length
+
+    def taken_back(self, told):
+        """What stands there now."""
+        if self.memory[:self.at] != PATTERN[:self.at] or self.memory[self.end:self.end + MARGIN] != PATTERN[:MARGIN]:
+            raise Overrun("%s was written around" % told)
+        now = bytes(self.memory[self.at:self.end])
+        if self.content is not None and now != self.content:
+            raise Overrun("%s was written to" % told)
+        return now
 
 
 class Library:
@@ -43,40 +102,51 @@ class Library:
                        check=True)
         loaded = ctypes.CDLL(shared)
         self.functions = {}
-        for operation, (name, parameters, result) in FUNCTIONS.items():
-            function = getattr(loaded, name)
+        for operation, (parameters, result) in FUNCTIONS.items():
+            function = getattr(loaded, "noemathu_" + operation)
             function.argtypes, function.restype = parameters, result
             self.functions[operation] = function
+        self.rooms = {name: Room() for name in ("bundle", "table", "pool", "out", "out_table", "out_pool")}
+        self.lent, self.shift = {}, 0
 
-    def ask(self, operation, table, pool, *rest):
-        words = array("I", table)
-        lent = (words.buffer_info()[0] if words else None, len(words), pool if pool else None, len(pool))
-        if operation == "check":
-            given = self.functions[operation](*lent)
-        elif operation == "normalize":
-            given = self.normalize(lent, *rest)
-        else:
-            row, query = rest
-            given = self.functions[operation](*lent, row, query if query else None, len(query))
-        if words != array("I", table):
-            raise Overrun("%s wrote to its input" % operation)
-        return given
+    def lend(self, bundle, table, pool, shift):
+        self.shift = shift
+        self.lent["bundle"] = self.rooms["bundle"].lend(len(bundle), shift, bundle)
+        self.lent["pool"] = self.rooms["pool"].lend(len(pool), shift, pool)
+        content = array("I", table).tobytes()
+        self.lent["table"] = self.rooms["table"].lend(len(content), 4 * shift, content)[0], len(table)
 
-    def normalize(self, lent, out_words, out_bytes):
-        out_table = array("I", [MARK_WORD]) * (out_words + MARGIN)
-        out_pool = bytearray(MARK_BYTE) * (out_bytes + MARGIN)
-        room = (BYTES if not out_bytes else ctypes.c_char * len(out_pool))
-        pointer = ctypes.addressof(room.from_buffer(out_pool)) if out_bytes else None
-        number = self.functions["normalize"](*lent, out_table.buffer_info()[0] if out_words else None, out_words,
-                                             pointer, out_bytes)
-        if out_table[out_words:] != array("I", [MARK_WORD]) * MARGIN or out_pool[out_bytes:] != MARK_BYTE * MARGIN:
-            raise Overrun("normalize wrote behind its output")
-        return number, out_table[:out_words].tobytes(), bytes(out_pool[:out_bytes])
+    def taken_back(self):
+        for name in ("bundle", "table", "pool"):
+            self.rooms[name].taken_back(name)
 
-    def shown(self, operation, answer):
-        if operation == "check":
-            return answer[0]
-        if operation == "normalize":
-            number, _, _, _, out_table, out_pool = answer
-            return number, array("I", out_table).tobytes(), out_pool
-        return int(answer[-1])
+    def ask(self, operation, *rest):
+        return getattr(self, operation, self.lookup)(operation, *rest)
+
+    def check(self, operation):
+        answer = self.functions[operation](*self.lent["bundle"])
+        return answer.number, answer.row
+
+    def lookup(self, operation, row, query):
+        answer = self.functions[operation](*self.lent["bundle"], row, query if query else None, len(query))
+        return (answer.refusal.number, answer.refusal.row, answer.found, answer.place.offset, answer.place.length)
+
+    def is_default(self, operation, row, query):
+        answer = self.functions[operation](*self.lent["bundle"], row, query if query else None, len(query))
+        return answer.refusal.number, answer.refusal.row, answer.yes
+
+    def normalize(self, operation, size):
+        answer = self.functions[operation](*self.lent["bundle"], *self.rooms["out"].lend(size, self.shift))
+        return answer.refusal.number, answer.refusal.row, answer.bytes, self.rooms["out"].taken_back("the output")
+
+    def write(self, operation, size):
+        answer = self.functions[operation](*self.lent["table"], *self.lent["pool"],
+                                           *self.rooms["out"].lend(size, self.shift))
+        return answer.refusal.number, answer.refusal.row, answer.bytes, self.rooms["out"].taken_back("the output")
+
+    def read(self, operation, count, size):
+        table = self.rooms["out_table"].lend(4 * count, 4 * self.shift)[0], count
+        answer = self.functions[operation](*self.lent["bundle"], *table, *self.rooms["out_pool"].lend(size, self.shift))
+        return (answer.refusal.number, answer.refusal.row, answer.rows, answer.bytes,
+                tuple(memoryview(self.rooms["out_table"].taken_back("the output table")).cast("I")),
+                self.rooms["out_pool"].taken_back("the output pool"))

@@ -423,24 +423,36 @@ def in_scope_prefix(table, pool, row, query):
 def normalize(table, pool, out_words, out_bytes):
     """Input table and pool are read; output table and pool are written. The rest of both output buffers is zero. Success
     answers the result's row count and pool length; a refusal answers 0 for both."""
-    table, pool = tuple(table), bytes(pool)
-    number, row = check(table, pool)
-    tree = None
+    (number, row), tree = normalized(tuple(table), bytes(pool))
     if number == 0:
-        tree = Tree(table, pool)
-        number, row = first_level1(tree)
-    if number == 0:
-        for element in [row for row in tree.rows if row.type == ELEMENT]:
-            repair_element(tree, element)
-            for attribute in tree.owned(element, ATTRIBUTE):
-                if attribute.uri.text != b"":
-                    repair_attribute(tree, element, attribute)
         number, row = too_much(tree, out_words, out_bytes)
     if number != 0:
         return number, row, 0, 0, (0,) * out_words, bytes(out_bytes)
-    words = [word for row in tree.rows for word in row.words()]
+    words = words_of(tree)
     return (0, 0, len(tree.rows), len(tree.pool),
-            tuple(words) + (0,) * (out_words - len(words)), tree.pool + bytes(out_bytes - len(tree.pool)))
+            words + (0,) * (out_words - len(words)), tree.pool + bytes(out_bytes - len(tree.pool)))
+
+
+@lru_cache(maxsize=1)
+def normalized(table, pool):
+    """The refusal, with row; or no refusal, and the result, whatever room there is for it."""
+    refusal = check(table, pool)
+    if refusal[0] != 0:
+        return refusal, None
+    tree = Tree(table, pool)
+    refusal = first_level1(tree)
+    if refusal[0] != 0:
+        return refusal, None
+    for element in [row for row in tree.rows if row.type == ELEMENT]:
+        repair_element(tree, element)
+        for attribute in tree.owned(element, ATTRIBUTE):
+            if attribute.uri.text != b"":
+                repair_attribute(tree, element, attribute)
+    return (0, 0), tree
+
+
+def words_of(tree):
+    return tuple(word for row in tree.rows for word in row.words())
 
 
 def first_level1(tree):

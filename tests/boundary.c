@@ -1,0 +1,621 @@
+/* The C interface at its edges: no bytes at all, every length up to a whole bundle and some beyond, outputs of every size
+   around the exact one, every alignment, inputs that overlap, the largest bundles, and the stack that a call takes.
+
+   Everything lent stands between pages that cannot be touched, once with its end at the page behind and once with its
+   start at the page before, and inputs cannot be written to. Around it stands a pattern, which must be there afterwards. */
+#define _GNU_SOURCE
+#include <noemathu.h>
+#include <pthread.h>
+#include <stdio.h>
+#include <stdlib.h>
+#include <string.h>
+#include <sys/mman.h>
+
+static unsigned long checks;
+
+#define EXPECT(claim) expect((claim), #claim, __LINE__)
+
+static void expect(bool holds, const char *claim, int line)
+{
+    checks++;
+    if (!holds) {
+        fprintf(stderr, "tests/boundary.c:%d: this does not hold: %s\n", line, claim);
+        exit(1);
+    }
+}
+
+/* ---- lent memory */
+
+enum { PAGE = 4096, ROOM = 32 * PAGE, PATTERN = 0xa5, EDGE = 64 };
+
+/* Pages between two that cannot be touched, and what is lent of them. */
+struct room {
+    uint8_t *pages, *lent;
+    size_t length;
+};
+
+/* Where in a room something stands: so many bytes before the page behind, or behind the page before. */
+struct where {
+    bool at_start;
+    size_t off;
+};
+
+static void lend(struct room *room, const void *content, size_t length, struct where where)
+{
+    if (!room->pages) {
+        uint8_t *all = mmap(NULL, ROOM + 2 * PAGE, PROT_NONE, MAP_PRIVATE | MAP_ANONYMOUS, -1, 0);
+        EXPECT(all != MAP_FAILED);
+        room->pages = all + PAGE;
+        EXPECT(mprotect(room->pages, ROOM, PROT_READ | PROT_WRITE) == 0);
+        memset(room->pages, PATTERN, ROOM);
+    }
+    EXPECT(length + where.off <= ROOM);
+    room->lent = where.at_start ? room->pages + where.off : room->pages + ROOM - where.off - length;
+    room->length = length;
+    if (content && length > 0) {
+        memcpy(room->lent, content, length);
+        EXPECT(mprotect(room->pages, ROOM, PROT_READ) == 0);
+    }
+}
+
+static bool is_pattern(const uint8_t *from, const uint8_t *to)
+{
+    while (from < to && *from == PATTERN)
+        from++;
+    return from >= to;
+}
+
+static const uint8_t *before(const struct room *room)
+{
+    return room->lent - room->pages > EDGE ? room->lent - EDGE : room->pages;
+}
+
+static const uint8_t *behind(const struct room *room)
+{
+    const uint8_t *end = room->lent + room->length, *all = room->pages + ROOM;
+    return all - end > EDGE ? end + EDGE : all;
+}
+
+/* The pattern around is intact; then the room is whole again. */
+static void take_back(struct room *room)
+{
+    EXPECT(is_pattern(before(room), room->lent));
+    EXPECT(is_pattern(room->lent + room->length, behind(room)));
+    EXPECT(mprotect(room->pages, ROOM, PROT_READ | PROT_WRITE) == 0);
+    memset(room->lent, PATTERN, room->length);
+}
+
+static bool is_zero(const uint8_t *bytes, size_t length)
+{
+    while (length > 0 && bytes[length - 1] == 0)
+        length--;
+    return length == 0;
+}
+
+/* What was written there is these bytes and then zeros. */
+static bool holds(const struct room *room, const void *bytes, size_t length)
+{
+    return length <= room->length && (length == 0 || memcmp(room->lent, bytes, length) == 0) &&
+           is_zero(room->lent + length, room->length - length);
+}
+
+static struct room bundle_room, query_room, table_room, pool_room, out_room, out_table_room, out_pool_room;
+
+static const struct where ENDS = {false, 0};
+
+/* ---- the bundles */
+
+#define NONE_BYTES 255, 255, 255, 255
+#define W(n) (n), 0, 0, 0
+
+/* Examples A and B of the rules, and what normalization makes of them. */
+static const uint8_t bundle_a[] = {'N', 'T', 'B', 1, 0, 0, 1, 0, W(2),
+    W(1), NONE_BYTES, W(0), W(0), W(0), W(1), W(1), W(1), W(0), W(0), 'a', 'U'};
+static const uint8_t result_a[] = {'N', 'T', 'B', 1, 0, 0, 2, 0, W(2),
+    W(1), NONE_BYTES, W(0), W(0), W(0), W(1), W(1), W(1), W(0), W(0),
+    W(13), W(0), W(0), W(0), W(0), W(0), W(0), W(0), W(1), W(1), 'a', 'U'};
+static const uint8_t bundle_b[] = {'N', 'T', 'B', 1, 0, 0, 2, 0, W(3),
+    W(1), NONE_BYTES, W(0), W(0), W(0), W(1), W(0), W(0), W(0), W(0),
+    W(2), W(0), W(0), W(0), W(2), W(1), W(1), W(1), W(0), W(0), 'a', 'U', 'b'};
+static const uint8_t result_b[] = {'N', 'T', 'B', 1, 0, 0, 3, 0, W(6),
+    W(1), NONE_BYTES, W(0), W(0), W(0), W(1), W(0), W(0), W(0), W(0),
+    W(2), W(0), W(3), W(3), W(2), W(1), W(1), W(1), W(0), W(0),
+    W(13), W(0), W(0), W(0), W(3), W(3), W(0), W(0), W(1), W(1), 'a', 'U', 'b', 'N', 'S', '1'};
+static const uint8_t bundle_none[] = {'N', 'T', 'B', 1, 0, 0, 0, 0, W(0)};
+
+static const struct sample {
+    const uint8_t *bundle;
+    size_t length;
+    const uint8_t *result;
+    size_t result_length;
+} samples[] = {{bundle_none, sizeof bundle_none, bundle_none, sizeof bundle_none},
+               {bundle_a, sizeof bundle_a, result_a, sizeof result_a},
+               {bundle_b, sizeof bundle_b, result_b, sizeof result_b},
+               {result_a, sizeof result_a, result_a, sizeof result_a},
+               {result_b, sizeof result_b, result_b, sizeof result_b}};
+
+enum { SAMPLES = sizeof samples / sizeof *samples };
+
+/* ---- what every call must say of a bundle */
+
+static bool is_refusal(noemathu_refusal refusal, uint32_t number, uint32_t row)
+{
+    return refusal.number == number && refusal.row == row;
+}
+
+static bool is_nothing(noemathu_found found, uint32_t number, uint32_t row)
+{
+    return is_refusal(found.refusal, number, row) && found.found == NOEMATHU_NOTHING && found.place.offset == 0 &&
+           found.place.length == 0;
+}
+
+/* All eight refuse it so, and leave their outputs zero. */
+static void refused(const uint8_t *bundle, size_t length, uint32_t number, uint32_t row)
+{
+    const uint8_t *p = (const uint8_t *)"p";
+    EXPECT(is_refusal(noemathu_check(bundle, length), number, row));
+    EXPECT(is_nothing(noemathu_uri_of_prefix(bundle, length, 0, p, 1), number, row));
+    EXPECT(is_nothing(noemathu_prefix_of_uri(bundle, length, 0, p, 1), number, row));
+    EXPECT(is_nothing(noemathu_in_scope_uri(bundle, length, 0, p, 1), number, row));
+    EXPECT(is_nothing(noemathu_in_scope_prefix(bundle, length, 0, p, 1), number, row));
+    noemathu_tested tested = noemathu_is_default(bundle, length, 0, p, 1);
+    EXPECT(is_refusal(tested.refusal, number, row) && !tested.yes);
+
+    lend(&out_room, NULL, 201, ENDS);
+    noemathu_used used = noemathu_normalize(bundle, length, out_room.lent, out_room.length);
+    EXPECT(is_refusal(used.refusal, number, row) && used.bytes == 0 && holds(&out_room, NULL, 0));
+    take_back(&out_room);
+
+    lend(&out_table_room, NULL, 4 * 33, ENDS);
+    lend(&out_pool_room, NULL, 17, ENDS);
+    noemathu_sizes sizes = noemathu_read(bundle, length, (uint32_t *)out_table_room.lent, 33, out_pool_room.lent, 17);
+    EXPECT(is_refusal(sizes.refusal, number, row) && sizes.rows == 0 && sizes.bytes == 0);
+    EXPECT(holds(&out_table_room, NULL, 0) && holds(&out_pool_room, NULL, 0));
+    take_back(&out_table_room);
+    take_back(&out_pool_room);
+}
+
+/* The same bytes in a room, at every alignment and at both ends of it. */
+static void refused_everywhere(const uint8_t *bytes, size_t length, uint32_t number, uint32_t row)
+{
+    for (size_t i = 0; i < 16; i++) {
+        lend(&bundle_room, bytes, length, (struct where){i >= 8, i % 8});
+        refused(bundle_room.lent, length, number, row);
+        take_back(&bundle_room);
+    }
+}
+
+/* ---- the tests */
+
+static void nothing_lent(void)
+{
+    EXPECT(is_refusal(noemathu_check(NULL, 0), 30, 0));
+    EXPECT(is_nothing(noemathu_uri_of_prefix(NULL, 0, 0, NULL, 0), 30, 0));
+    EXPECT(is_nothing(noemathu_prefix_of_uri(NULL, 0, 0, NULL, 0), 30, 0));
+    EXPECT(is_nothing(noemathu_in_scope_uri(NULL, 0, 0, NULL, 0), 30, 0));
+    EXPECT(is_nothing(noemathu_in_scope_prefix(NULL, 0, 0, NULL, 0), 30, 0));
+    EXPECT(is_refusal(noemathu_is_default(NULL, 0, 0, NULL, 0).refusal, 30, 0));
+    EXPECT(is_refusal(noemathu_normalize(NULL, 0, NULL, 0).refusal, 30, 0));
+    EXPECT(is_refusal(noemathu_read(NULL, 0, NULL, 0, NULL, 0).refusal, 30, 0));
+    EXPECT(is_refusal(noemathu_write(NULL, 0, NULL, 0, NULL, 0).refusal, 33, 0));
+    refused(NULL, 0, 30, 0);
+
+    /* A table of no rows is a table, and its bundle has 12 bytes. */
+    lend(&out_room, NULL, 12, ENDS);
+    noemathu_used used = noemathu_write(NULL, 0, NULL, 0, out_room.lent, 12);
+    EXPECT(is_refusal(used.refusal, 0, 0) && used.bytes == 12 && holds(&out_room, bundle_none, 12));
+    take_back(&out_room);
+    noemathu_sizes sizes = noemathu_read(bundle_none, 12, NULL, 0, NULL, 0);
+    EXPECT(is_refusal(sizes.refusal, 0, 0) && sizes.rows == 0 && sizes.bytes == 0);
+    EXPECT(is_nothing(noemathu_uri_of_prefix(bundle_none, 12, 0, NULL, 0), 8, 0));
+
+    /* An empty query, and outputs that are not there. */
+    noemathu_found found = noemathu_uri_of_prefix(bundle_a, sizeof bundle_a, 0, NULL, 0);
+    EXPECT(found.found == NOEMATHU_PLACE && found.place.offset == 1 && found.place.length == 1);
+    EXPECT(is_nothing(noemathu_prefix_of_uri(bundle_a, sizeof bundle_a, 0, NULL, 0), 0, 0));
+    EXPECT(!noemathu_is_default(bundle_a, sizeof bundle_a, 0, NULL, 0).yes);
+    EXPECT(noemathu_is_default(bundle_b, sizeof bundle_b, 0, NULL, 0).yes);
+    EXPECT(is_refusal(noemathu_normalize(bundle_a, sizeof bundle_a, NULL, 0).refusal, 33, 0));
+    EXPECT(is_refusal(noemathu_read(bundle_a, sizeof bundle_a, NULL, 0, NULL, 0).refusal, 10, 0));
+}
+
+/* Bytes that end early, and bytes that go on. */
+static void every_length(void)
+{
+    for (size_t s = 0; s < SAMPLES; s++) {
+        uint8_t bytes[300];
+        memset(bytes, 'a', sizeof bytes);
+        memcpy(bytes, samples[s].bundle, samples[s].length);
+        for (size_t length = 0; length < samples[s].length + 50; length++)
+            if (length != samples[s].length)
+                refused_everywhere(bytes, length, length < 3 ? 30 : length < 5 ? 31 : 32, 0);
+    }
+}
+
+/* Every byte of the header with every value: what it draws is told by its place. */
+static void every_header_byte(void)
+{
+    for (size_t at = 0; at < 12; at++)
+        for (unsigned value = 0; value < 256; value++) {
+            uint8_t bytes[sizeof bundle_a];
+            memcpy(bytes, bundle_a, sizeof bytes);
+            bytes[at] = (uint8_t)value;
+            if (bytes[at] == bundle_a[at])
+                EXPECT(is_refusal(noemathu_check(bytes, sizeof bytes), 0, 0));
+            else
+                refused(bytes, sizeof bytes, at < 3 ? 30 : at < 5 ? 31 : 32, 0);
+        }
+}
+
+static void normalize_at(const struct sample *sample, struct where where, size_t size)
+{
+    lend(&bundle_room, sample->bundle, sample->length, where);
+    lend(&out_room, NULL, size, where);
+    noemathu_used used = noemathu_normalize(bundle_room.lent, sample->length, size ? out_room.lent : NULL, size);
+    if (size < sample->result_length) {
+        EXPECT(is_refusal(used.refusal, 33, 0) && used.bytes == 0 && holds(&out_room, NULL, 0));
+    } else {
+        EXPECT(is_refusal(used.refusal, 0, 0) && used.bytes == sample->result_length);
+        EXPECT(holds(&out_room, sample->result, sample->result_length));
+    }
+    take_back(&bundle_room);
+    take_back(&out_room);
+}
+
+/* Reads a sample into outputs of these sizes, and writes what it holds. */
+static void read_at(const struct sample *sample, struct where where, size_t words, size_t size)
+{
+    size_t rows = noemathu_row_count(sample->bundle), bytes = noemathu_pool_length(sample->bundle);
+    lend(&bundle_room, sample->bundle, sample->length, where);
+    lend(&out_table_room, NULL, 4 * words, (struct where){where.at_start, 4 * where.off});
+    lend(&out_pool_room, NULL, size, where);
+    noemathu_sizes sizes = noemathu_read(bundle_room.lent, sample->length, (uint32_t *)out_table_room.lent, words,
+                                         size ? out_pool_room.lent : NULL, size);
+    if (words / 10 < rows || size < bytes) {
+        EXPECT(is_refusal(sizes.refusal, words / 10 < rows ? 10 : 11, 0) && sizes.rows == 0 && sizes.bytes == 0);
+        EXPECT(holds(&out_table_room, NULL, 0) && holds(&out_pool_room, NULL, 0));
+    } else {
+        EXPECT(is_refusal(sizes.refusal, 0, 0) && sizes.rows == rows && sizes.bytes == bytes);
+        EXPECT(holds(&out_pool_room, noemathu_pool(sample->bundle), bytes));
+        EXPECT(is_zero(out_table_room.lent + 40 * rows, 4 * words - 40 * rows));
+        for (size_t i = 0; i < 10 * rows; i++)
+            EXPECT(((uint32_t *)out_table_room.lent)[i] == noemathu_word(sample->bundle, i / 10, i % 10));
+    }
+    take_back(&bundle_room);
+    take_back(&out_table_room);
+    take_back(&out_pool_room);
+}
+
+static void write_at(const struct sample *sample, struct where where, size_t size)
+{
+    uint32_t table[200];
+    size_t rows = noemathu_row_count(sample->bundle), bytes = noemathu_pool_length(sample->bundle);
+    for (size_t i = 0; i < rows; i++)
+        noemathu_put_row(table, i, noemathu_row_of(sample->bundle, i));
+    lend(&table_room, table, 40 * rows, (struct where){where.at_start, 4 * where.off});
+    lend(&pool_room, noemathu_pool(sample->bundle), bytes, where);
+    lend(&out_room, NULL, size, where);
+    noemathu_used used = noemathu_write((uint32_t *)table_room.lent, 10 * rows, pool_room.lent, bytes,
+                                        size ? out_room.lent : NULL, size);
+    if (size < sample->length) {
+        EXPECT(is_refusal(used.refusal, 33, 0) && used.bytes == 0 && holds(&out_room, NULL, 0));
+    } else {
+        EXPECT(is_refusal(used.refusal, 0, 0) && used.bytes == sample->length);
+        EXPECT(holds(&out_room, sample->bundle, sample->length));
+    }
+    take_back(&table_room);
+    take_back(&pool_room);
+    take_back(&out_room);
+}
+
+static void every_output_size(void)
+{
+    for (size_t s = 0; s < SAMPLES; s++)
+        for (size_t i = 0; i < 16; i++) {
+            const struct sample *sample = &samples[s];
+            struct where where = {i >= 8, i % 8};
+            for (size_t size = 0; size < sample->result_length + 45; size++)
+                normalize_at(sample, where, size);
+            for (size_t size = 0; size < sample->length + 45; size++)
+                write_at(sample, where, size);
+            for (size_t words = 0; words < 10 * noemathu_row_count(sample->bundle) + 12; words++)
+                for (size_t size = 0; size < noemathu_pool_length(sample->bundle) + 3; size++)
+                    read_at(sample, where, words, size);
+        }
+}
+
+/* All questions at every alignment, of a query that stands apart and of one that stands in the bundle. */
+static void every_question(void)
+{
+    for (size_t i = 0; i < 16; i++) {
+        struct where where = {i >= 8, i % 8};
+        lend(&bundle_room, result_b, sizeof result_b, where);
+        for (int inside = 0; inside < 2; inside++) {
+            const uint8_t *bundle = bundle_room.lent, *prefix = noemathu_pool(bundle) + 3, *uri = noemathu_pool(bundle) + 1;
+            size_t length = sizeof result_b;
+            lend(&query_room, "NS1", 3, where);
+            prefix = inside ? prefix : query_room.lent;
+            for (uint32_t row = 0; row < 3; row++) {
+                noemathu_found found = noemathu_uri_of_prefix(bundle, length, row, prefix, 3);
+                EXPECT(found.found == NOEMATHU_PLACE && found.place.offset == 1 && found.place.length == 1);
+                EXPECT(noemathu_bytes(bundle, found.place)[0] == 'U');
+                found = noemathu_in_scope_uri(bundle, length, row, prefix, 3);
+                EXPECT(found.found == NOEMATHU_PLACE && found.place.offset == 1 && found.place.length == 1);
+            }
+            EXPECT(is_nothing(noemathu_uri_of_prefix(bundle, length, 0, prefix, 2), 0, 0));
+            EXPECT(is_nothing(noemathu_uri_of_prefix(bundle, length, 3, prefix, 3), 8, 0));
+            EXPECT(is_nothing(noemathu_in_scope_uri(bundle, length, NOEMATHU_NONE, prefix, 3), 8, 0));
+            take_back(&query_room);
+            lend(&query_room, "U", 1, where);
+            uri = inside ? uri : query_room.lent;
+            noemathu_found found = noemathu_prefix_of_uri(bundle, length, 1, uri, 1);
+            EXPECT(found.found == NOEMATHU_PLACE && found.place.offset == 3 && found.place.length == 3);
+            found = noemathu_in_scope_prefix(bundle, length, 1, uri, 1);
+            EXPECT(found.found == NOEMATHU_PLACE && found.place.offset == 3 && found.place.length == 3);
+            noemathu_tested tested = noemathu_is_default(bundle, length, 1, uri, 1);
+            EXPECT(is_refusal(tested.refusal, 0, 0) && !tested.yes);
+            EXPECT(is_refusal(noemathu_is_default(bundle, length, 3, uri, 1).refusal, 8, 0));
+            take_back(&query_room);
+        }
+        EXPECT(noemathu_in_scope_uri(bundle_room.lent, sizeof result_b, 0, (const uint8_t *)"xml", 3).found ==
+               NOEMATHU_BUILT_IN_XML);
+        EXPECT(noemathu_in_scope_uri(bundle_room.lent, sizeof result_b, 0, (const uint8_t *)"xmlns", 5).found ==
+               NOEMATHU_BUILT_IN_XMLNS);
+        EXPECT(noemathu_in_scope_prefix(bundle_room.lent, sizeof result_b, 0, (const uint8_t *)NOEMATHU_XML_URI, 36).found ==
+               NOEMATHU_BUILT_IN_XML);
+        EXPECT(noemathu_in_scope_prefix(bundle_room.lent, sizeof result_b, 0, (const uint8_t *)NOEMATHU_XMLNS_URI, 29)
+                   .found == NOEMATHU_BUILT_IN_XMLNS);
+        take_back(&bundle_room);
+    }
+}
+
+/* Inputs may overlap: a table whose pool is its own bytes, a bundle that is its own query. */
+static void overlapping_inputs(void)
+{
+    uint32_t table[10] = {3, NOEMATHU_NONE, 0, 0, 0, 0, 0, 0, 4, 8};
+    uint8_t out[12 + 40 + 40];
+    noemathu_used used = noemathu_write(table, 10, (const uint8_t *)table, sizeof table, out, sizeof out);
+    EXPECT(is_refusal(used.refusal, 0, 0) && used.bytes == sizeof out && memcmp(out + 52, table, 40) == 0);
+    EXPECT(is_nothing(noemathu_uri_of_prefix(bundle_a, sizeof bundle_a, 0, bundle_a, sizeof bundle_a), 0, 0));
+    EXPECT(is_nothing(noemathu_in_scope_prefix(bundle_a, sizeof bundle_a, 0, bundle_a, sizeof bundle_a), 0, 0));
+}
+
+/* Words that are no whole rows; a row with something wrong in it. */
+static void refused_tables(void)
+{
+    const uint32_t row[10] = {1, NOEMATHU_NONE, 0, 0, 0, 1, 1, 1, 0, 0};
+    uint32_t table[20] = {0};
+    uint8_t out[300];
+    memcpy(table, row, sizeof row);
+    for (size_t words = 0; words <= 20; words++) {
+        uint32_t number = words % 10 ? 1 : words == 20 ? 2 : 0;
+        noemathu_used used;
+        memset(out, PATTERN, sizeof out);
+        used = noemathu_write(table, words, (const uint8_t *)"aU", 2, out, sizeof out);
+        EXPECT(is_refusal(used.refusal, number, words == 20) && used.bytes == (number ? 0 : 12 + 4 * words + 2));
+        EXPECT(is_zero(out + used.bytes, sizeof out - used.bytes));
+    }
+    for (size_t bytes = 0; bytes <= 2; bytes++)
+        EXPECT(is_refusal(noemathu_write(row, 10, (const uint8_t *)"aU", bytes, out, sizeof out).refusal, bytes < 2 ? 3 : 0, 0));
+}
+
+/* ---- the largest */
+
+static uint8_t large[NOEMATHU_BUNDLE_BYTES(1200, 40000)], large_out[NOEMATHU_BUNDLE_MOST + 100];
+static uint32_t large_table[12000];
+
+static void set_number(uint8_t *bytes, size_t count, size_t number)
+{
+    for (size_t k = 0; k < count; k++)
+        bytes[k] = (uint8_t)(number >> 8 * k);
+}
+
+static void set_word(size_t row, size_t word, uint32_t value)
+{
+    set_number(large + NOEMATHU_BUNDLE_BYTES(row, 4 * word), 4, value);
+}
+
+/* An element `a` without a URI, and rows of a type below it, each in the one before or all in the first; and a pool of so
+   many `a`. */
+static size_t make_large(size_t rows, size_t bytes, uint32_t type, bool nested)
+{
+    memset(large_table, 0, sizeof large_table);
+    for (size_t i = 0; i < rows; i++) {
+        large_table[10 * i] = i == 0 ? NOEMATHU_ELEMENT : type;
+        large_table[10 * i + 1] = i == 0 ? NOEMATHU_NONE : nested ? (uint32_t)i - 1 : 0;
+        large_table[10 * i + 5] = large_table[10 * i] == NOEMATHU_ELEMENT;
+    }
+    memcpy(large, bundle_none, 12);
+    set_number(large + 6, 2, rows);
+    set_number(large + 8, 4, bytes);
+    for (size_t i = 0; i < 10 * rows; i++)
+        set_word(0, i, large_table[i]);
+    memset(large + NOEMATHU_BUNDLE_BYTES(rows, 0), 'a', bytes);
+    return NOEMATHU_BUNDLE_BYTES(rows, bytes);
+}
+
+static void largest(void)
+{
+    size_t length = make_large(1024, 32768, NOEMATHU_TEXT, false);
+    EXPECT(length == NOEMATHU_BUNDLE_MOST && length == 73740);
+    lend(&bundle_room, large, length, ENDS);
+    EXPECT(is_refusal(noemathu_check(bundle_room.lent, length), 0, 0));
+    EXPECT(is_nothing(noemathu_uri_of_prefix(bundle_room.lent, length, 1023, NULL, 0), 0, 0));
+    lend(&out_room, NULL, length, ENDS);
+    noemathu_used used = noemathu_normalize(bundle_room.lent, length, out_room.lent, length);
+    EXPECT(is_refusal(used.refusal, 0, 0) && used.bytes == length && holds(&out_room, large, length));
+    used = noemathu_normalize(bundle_room.lent, length, out_room.lent, length - 1);
+    EXPECT(is_refusal(used.refusal, 33, 0) && used.bytes == 0 && is_zero(out_room.lent, length - 1));
+    take_back(&out_room);
+    take_back(&bundle_room);
+
+    lend(&table_room, large_table, 40 * 1024, ENDS);
+    lend(&pool_room, large + 12 + 40 * 1024, 32768, ENDS);
+    lend(&out_room, NULL, length, ENDS);
+    used = noemathu_write((uint32_t *)table_room.lent, 10240, pool_room.lent, 32768, out_room.lent, length);
+    EXPECT(is_refusal(used.refusal, 0, 0) && used.bytes == length && holds(&out_room, large, length));
+    take_back(&table_room);
+    take_back(&pool_room);
+    take_back(&out_room);
+
+    refused_everywhere(large, make_large(1025, 0, NOEMATHU_TEXT, false), 1, 0);
+    refused_everywhere(large, make_large(1, 32769, NOEMATHU_TEXT, false), 1, 0);
+    EXPECT(is_refusal(noemathu_write(large_table, 10250, NULL, 0, large_out, sizeof large_out).refusal, 1, 0));
+    EXPECT(is_refusal(noemathu_write(large_table, 10, large, 32769, large_out, sizeof large_out).refusal, 1, 0));
+}
+
+/* A result beyond the limits draws 10 or 11 however much room there is, and 33 does not come before. */
+static void result_refused(size_t length, uint32_t number)
+{
+    EXPECT(is_refusal(noemathu_check(large, length), 0, 0));
+    for (size_t size = 0; size <= sizeof large_out; size += sizeof large_out / 4) {
+        memset(large_out, PATTERN, sizeof large_out);
+        noemathu_used used = noemathu_normalize(large, length, large_out, size);
+        EXPECT(is_refusal(used.refusal, number, 0) && used.bytes == 0 && is_zero(large_out, size));
+        EXPECT(is_pattern(large_out + size, large_out + sizeof large_out));
+    }
+}
+
+static void beyond_the_limits(void)
+{
+    /* The first element has a URI that nothing declares: a row more. */
+    size_t length = make_large(1024, 32768, NOEMATHU_TEXT, false);
+    set_word(0, 7, 1);
+    EXPECT(noemathu_room(large) == NOEMATHU_BUNDLE_MOST);
+    result_refused(length, 10);
+    /* An attribute with a URI and no prefix: a row and three bytes more. */
+    length = make_large(2, 32768, NOEMATHU_ATTRIBUTE, false);
+    set_word(1, 5, 1);
+    set_word(1, 7, 1);
+    result_refused(length, 11);
+}
+
+/* ---- the helpers of the header */
+
+static void helpers(void)
+{
+    const uint32_t numbers[] = {0, 1, 2, 3, 4, 5, 6, 7, 8, 9, 10, 11, 30, 31, 32, 33, 12};
+    for (size_t i = 0; i < sizeof numbers / sizeof *numbers; i++)
+        for (size_t k = 0; k < i; k++)
+            EXPECT(strcmp(noemathu_text(numbers[i]), noemathu_text(numbers[k])) != 0);
+    for (size_t s = 0; s < SAMPLES; s++) {
+        EXPECT(NOEMATHU_BUNDLE_BYTES(noemathu_row_count(samples[s].bundle), noemathu_pool_length(samples[s].bundle)) ==
+               samples[s].length);
+        EXPECT(noemathu_room(samples[s].bundle) >= samples[s].result_length);
+    }
+    EXPECT(strlen(NOEMATHU_XML_URI) == 36 && strlen(NOEMATHU_XMLNS_URI) == 29);
+
+    uint8_t pool[8];
+    size_t held = 0;
+    memset(pool, PATTERN, sizeof pool);
+    noemathu_place place = noemathu_put_bytes(pool, 6, &held, "abcd", 4);
+    EXPECT(place.offset == 0 && place.length == 4 && held == 4);
+    place = noemathu_put_bytes(pool, 6, &held, NULL, 0);
+    EXPECT(place.offset == 0 && place.length == 0 && held == 4);
+    place = noemathu_put_bytes(pool, 6, &held, "efg", 3);
+    EXPECT(held == 4 && (size_t)place.offset + place.length > 6);
+    place = noemathu_put_bytes(pool, 6, &held, "ef", 2);
+    EXPECT(place.offset == 4 && place.length == 2 && held == 6 && memcmp(pool, "abcdef", 6) == 0);
+    place = noemathu_put_bytes(pool, 6, &held, "g", 1);
+    EXPECT(held == 6 && (size_t)place.offset + place.length > 6 && is_pattern(pool + 6, pool + 8));
+}
+
+/* ---- the stack */
+
+static size_t large_length;
+
+static void run_nothing(void) {}
+static void run_check(void) { EXPECT(noemathu_check(large, large_length).number == 0); }
+static void run_uri(void) { noemathu_uri_of_prefix(large, large_length, 1023, (const uint8_t *)"p", 1); }
+static void run_prefix(void) { noemathu_prefix_of_uri(large, large_length, 1023, (const uint8_t *)"U", 1); }
+static void run_default(void) { noemathu_is_default(large, large_length, 1023, (const uint8_t *)"U", 1); }
+static void run_in_scope_uri(void) { noemathu_in_scope_uri(large, large_length, 1023, (const uint8_t *)"p", 1); }
+static void run_in_scope_prefix(void) { noemathu_in_scope_prefix(large, large_length, 1023, (const uint8_t *)"U", 1); }
+static void run_normalize(void) { noemathu_normalize(large, large_length, large_out, sizeof large_out); }
+static void run_read(void) { noemathu_read(large, large_length, large_table, 12000, large_out, sizeof large_out); }
+static void run_write(void)
+{
+    noemathu_write(large_table, 10240, noemathu_pool(large), noemathu_pool_length(large), large_out, sizeof large_out);
+}
+
+static void *run(void *call)
+{
+    (*(void (**)(void))call)();
+    return NULL;
+}
+
+/* How far a call wrote into a stack of its own. */
+static size_t stack_of(void (*call)(void))
+{
+    enum { SIZE = 2 << 20 };
+    uint8_t *stack = mmap(NULL, SIZE, PROT_READ | PROT_WRITE, MAP_PRIVATE | MAP_ANONYMOUS, -1, 0);
+    size_t untouched = 0;
+    pthread_attr_t attributes;
+    pthread_t thread;
+    EXPECT(stack != MAP_FAILED);
+    memset(stack, PATTERN, SIZE);
+    pthread_attr_init(&attributes);
+    EXPECT(pthread_attr_setstack(&attributes, stack, SIZE) == 0);
+    EXPECT(pthread_create(&thread, &attributes, run, &call) == 0);
+    EXPECT(pthread_join(thread, NULL) == 0);
+    while (untouched < SIZE && stack[untouched] == PATTERN)
+        untouched++;
+    munmap(stack, SIZE);
+    return SIZE - untouched;
+}
+
+/* On the deepest trees there are: rows in each other. */
+static void stack_as_told(void)
+{
+    void (*const calls[])(void) = {run_check, run_uri, run_prefix, run_default, run_in_scope_uri, run_in_scope_prefix,
+                                   run_normalize, run_read, run_write};
+    const uint32_t types[] = {NOEMATHU_ELEMENT, NOEMATHU_ENTITY_REFERENCE};
+    for (size_t t = 0; t < 2; t++) {
+        large_length = make_large(1024, 32768, types[t], true);
+        for (size_t i = 0; i < sizeof calls / sizeof *calls; i++)
+            EXPECT(stack_of(calls[i]) <= stack_of(run_nothing) + NOEMATHU_STACK);
+    }
+}
+
+/* ---- calls at once, on bundles that are shared */
+
+static void *many_calls(void *given)
+{
+    const struct sample *sample = given;
+    uint8_t out[200];
+    for (int i = 0; i < 2000; i++) {
+        noemathu_used used = noemathu_normalize(sample->bundle, sample->length, out, sizeof out);
+        if (used.bytes != sample->result_length || memcmp(out, sample->result, used.bytes) != 0)
+            return given;
+    }
+    return NULL;
+}
+
+static void calls_at_once(void)
+{
+    pthread_t threads[4];
+    for (size_t i = 0; i < 4; i++)
+        EXPECT(pthread_create(&threads[i], NULL, many_calls, (void *)&samples[1 + i % 2]) == 0);
+    for (size_t i = 0; i < 4; i++) {
+        void *wrong;
+        EXPECT(pthread_join(threads[i], &wrong) == 0 && wrong == NULL);
+    }
+}
+
+int main(void)
+{
+    nothing_lent();
+    every_length();
+    every_header_byte();
+    every_output_size();
+    every_question();
+    overlapping_inputs();
+    refused_tables();
+    largest();
+    beyond_the_limits();
+    helpers();
+    stack_as_told();
+    calls_at_once();
+    printf("boundary: %lu checks hold\n", checks);
+    return 0;
+}

@@ -1,0 +1,197 @@
+"""A second reading of session bundles, over the second reading of the rules: what a bundle is, and what each function of
+the C interface answers and leaves in its outputs. It is written from the rules, without a look at the library.
+
+A bundle, a pool and a query are strings of bytes, a table is a sequence of words, a row a number.
+
+    check(bundle) -> (number, row)
+    uri_of_prefix(bundle, row, query) -> (number, row, found, offset, length)
+    prefix_of_uri(bundle, row, query) -> (number, row, found, offset, length)
+    is_default(bundle, row, query) -> (number, row, yes)
+    in_scope_uri(bundle, row, query) -> (number, row, found, offset, length)
+    in_scope_prefix(bundle, row, query) -> (number, row, found, offset, length)
+    normalize(bundle, out_size) -> (number, row, bytes, out)
+    read(bundle, out_words, out_bytes) -> (number, row, rows, bytes, out_table, out_pool)
+    write(table, pool, out_size) -> (number, row, bytes, out)
+"""
+import struct
+from functools import lru_cache
+
+import reading
+
+# Little-endian throughout.
+MARK = b"NTB"
+VERSION = 1
+ORDER = "<"
+
+# What was found.
+FOUND = {"none": 0, "place": 1, "xml": 2, "xmlns": 3}
+
+
+class Refused(Exception):
+    """A refusal, with its number and row."""
+
+    def __init__(self, number, row=0):
+        self.refusal = number, row
+
+
+class Bytes:
+    """Bytes that are read from the front. Where they end too early, they draw a refusal."""
+
+    def __init__(self, all):
+        self.all, self.at = all, 0
+
+    def take(self, count, refusal):
+        if len(self.all) - self.at < count:
+            raise Refused(refusal)
+        self.at += count
+        return self.all[self.at - count:self.at]
+
+    def number(self, kind, refusal):
+        """A number of one (B), two (H) or four (I) bytes."""
+        return struct.unpack(ORDER + kind, self.take(struct.calcsize(ORDER + kind), refusal))[0]
+
+
+def mark_and_version(bytes):
+    """30: wrong mark. 31: other version. Bytes that end before the mark is whole draw 30, before the version is whole 31,
+    later 32."""
+    if bytes.take(len(MARK), 30) != MARK:
+        raise Refused(30)
+    if bytes.number("H", 31) != VERSION:
+        raise Refused(31)
+
+
+def zero_byte(bytes):
+    """32: a zero byte that isn't zero."""
+    if bytes.number("B", 32) != 0:
+        raise Refused(32)
+
+
+def nothing_after(bytes):
+    """32: lengths that disagree."""
+    if bytes.at != len(bytes.all):
+        raise Refused(32)
+
+
+@lru_cache(maxsize=1)
+def split(bundle):
+    """The table and the pool that the bytes stand for: the mark, the version of two bytes, a zero byte, the row count of
+    two bytes, the pool length of four, the rows, the pool, and nothing after."""
+    bytes = Bytes(bundle)
+    mark_and_version(bytes)
+    zero_byte(bytes)
+    rows = bytes.number("H", 32)
+    length = bytes.number("I", 32)
+    table = bytes.take(4 * reading.WIDTH * rows, 32)
+    pool = bytes.take(length, 32)
+    nothing_after(bytes)
+    return struct.unpack("%s%dI" % (ORDER, reading.WIDTH * rows), table), pool
+
+
+def join(table, pool):
+    """The bytes of a bundle."""
+    return MARK + struct.pack("%sHBHI%dI" % (ORDER, len(table)), VERSION, 0, len(table) // reading.WIDTH, len(pool),
+                              *table) + pool
+
+
+# The check and the lookups.
+
+def check(bundle):
+    """30 to 32 come before the numbers of a table."""
+    try:
+        return reading.check(*split(bundle))
+    except Refused as refused:
+        return refused.refusal
+
+
+def found(bundle, lookup, row, query):
+    """What a lookup that knows no built-ins finds."""
+    try:
+        number, at_row, offset, length = lookup(*split(bundle), row, query)
+    except Refused as refused:
+        return (*refused.refusal, FOUND["none"], 0, 0)
+    return number, at_row, FOUND["place" if length else "none"], offset, length
+
+
+def uri_of_prefix(bundle, row, query):
+    return found(bundle, reading.uri_of_prefix, row, query)
+
+
+def prefix_of_uri(bundle, row, query):
+    return found(bundle, reading.prefix_of_uri, row, query)
+
+
+def is_default(bundle, row, query):
+    try:
+        return reading.is_default(*split(bundle), row, query)
+    except Refused as refused:
+        return (*refused.refusal, False)
+
+
+def found_in_scope(bundle, lookup, row, query):
+    """What a lookup finds that answers a place, a built-in or none; the place is 0, 0 for the last two."""
+    try:
+        number, at_row, kind, offset, length = lookup(*split(bundle), row, query)
+    except Refused as refused:
+        return (*refused.refusal, FOUND["none"], 0, 0)
+    return number, at_row, FOUND[kind], offset, length
+
+
+def in_scope_uri(bundle, row, query):
+    return found_in_scope(bundle, reading.in_scope_uri, row, query)
+
+
+def in_scope_prefix(bundle, row, query):
+    return found_in_scope(bundle, reading.in_scope_prefix, row, query)
+
+
+# Outputs. Success answers how much of each output is used, tables in rows, a refusal 0. Refused outputs and room left over
+# are all zero.
+
+def refuse_if(number, row):
+    if number != 0:
+        raise Refused(number, row)
+
+
+def written(bundle, out_size):
+    """33, last of all, says that the output bytes are too few."""
+    if len(bundle) > out_size:
+        raise Refused(33)
+    return 0, 0, len(bundle), bundle + bytes(out_size - len(bundle))
+
+
+def normalize(bundle, out_size):
+    """For a written bundle 10 and 11 speak only of 1,024 and 32,768."""
+    try:
+        refusal, tree = reading.normalized(*split(bundle))
+        refuse_if(*refusal)
+        refuse_if(*reading.too_much(tree, reading.WIDTH * reading.MOST_ROWS, reading.MOST_BYTES))
+        return written(join(reading.words_of(tree), tree.pool), out_size)
+    except Refused as refused:
+        return (*refused.refusal, 0, bytes(out_size))
+
+
+def write(table, pool, out_size):
+    try:
+        refuse_if(*reading.check(table, pool))
+        return written(join(table, pool), out_size)
+    except Refused as refused:
+        return (*refused.refusal, 0, bytes(out_size))
+
+
+def too_short(table, pool, out_words, out_bytes):
+    """The reader's outputs draw 10 and 11 when short; a table counts its whole rows."""
+    if len(table) // reading.WIDTH > out_words // reading.WIDTH:
+        raise Refused(10)
+    if len(pool) > out_bytes:
+        raise Refused(11)
+
+
+def read(bundle, out_words, out_bytes):
+    try:
+        table, pool = split(bundle)
+        refuse_if(*reading.check(table, pool))
+        too_short(table, pool, out_words, out_bytes)
+    except Refused as refused:
+        return (*refused.refusal, 0, 0, (0,) * out_words, bytes(out_bytes))
+    return (0, 0, len(table) // reading.WIDTH, len(pool), table + (0,) * (out_words - len(table)),
+            pool + bytes(out_bytes - len(pool)))
