@@ -154,7 +154,7 @@ extern "C" {
 
 /* Bytes of stack that are enough for any call. Measured were at most 12,568 for
    noemathu_write, 53,640 for noemathu_check and noemathu_read, 106,976 for the
-   lookups and 236,752 for noemathu_normalize. */
+   lookups and 163,056 for noemathu_normalize. */
 #define NOEMATHU_STACK 262144
 
 /* The parent of a row that has none. */
