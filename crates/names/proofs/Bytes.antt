@@ -7,8 +7,9 @@ use mathlib.Core.List.{List, [], _∷_}
 use native.Mathlib.Nat.{le-of-suc-le-suc, not-suc-le-zero, zero-add, suc-add, zero-min, min-zero, suc-min-suc}
 use native.Mathlib.Numerals.{add-one}
 use native.Mathlib.Omega.{arith}
+use borrow.Author.Tests.{eq-eqb}
 use lib.Dec.{eqb, leb}
-use lib.ListN.{length, getD, take, drop, length-drop, take-append-drop, drop-of-length-le}
+use lib.ListN.{length, getD, take, drop, length-drop, drop-of-length-le}
 use lib.Seq.{drop-cons, drop-drop}
 use Rattle.rules.specs.Lists.{allOf, sameBytes}
 use Rattle.rules.specs.Table.{part}
@@ -16,13 +17,14 @@ use Rattle.rules.specs.declared.Located.{Located}
 use Rattle.rules.specs.Lookups.{locatedPart}
 use Rattle.rules.specs.Answers.{locatedPlace}
 use Rattle.rules.specs.Refusals.{isBetween, isFirstByte, isNameByte, goodName}
-use Rattle.rules.proofs.Lists.{true-not-false, sameBytes-equal, equal-sameBytes, unequal-sameBytes}
+use Rattle.rules.proofs.Lists.{true-not-false, true-both, equal-sameBytes, unequal-sameBytes}
+use Rattle.names.proofs.Order.{end-then-front}
 
--- The strings are of one length, and equal from i on.
+-- The strings are of one length, and the same from i on.
 pub record EqualFrom (a b : List ℕ) (i : ℕ) : Type 0 where
   pub within : i ≤ length a
   pub level : length a ≡ length b
-  pub behind : drop i a ≡ drop i b
+  pub behind : sameBytes (drop i a) (drop i b) ≡ true
 
 -- What is taken is compared group by group.
 same-taken : (m n : ℕ) (x y : List ℕ) → m ≤ length x → m ≤ length y → (sameBytes (take m x) (take m y) && sameBytes (take n (drop m x)) (take n (drop m y))) ≡ sameBytes (take (m + n) x) (take (m + n) y)
@@ -38,29 +40,26 @@ module _ (a b : List ℕ) where
       record {
         within = omega arith;
         level = e;
-        behind = drop-of-length-le a {i = length a} (omega arith) ∙ sym (drop-of-length-le b {i = length a} (omega arith));
-      }
-
-  pub equal-byte : (i : ℕ) → 0 < i → EqualFrom a b i → getD a (i - 1) 0 ≡ getD b (i - 1) 0 → EqualFrom a b (i - 1)
-  equal-byte i h from byte =
-      let e : i ≡ suc (i - 1) = omega arith in
-      record {
-        within = omega arith;
-        level = from .level;
-        behind = cc (drop-cons a (i - 1) 0 (omega arith), drop-cons b (i - 1) 0 (omega arith));
+        behind = rw (drop-of-length-le a {i = length a} (omega arith), drop-of-length-le b {i = length a} (omega arith)) refl;
       }
 
   pub equal-group : (n i : ℕ) → n ≤ i → EqualFrom a b i → sameBytes (part a (i - n) n) (part b (i - n) n) ≡ true → EqualFrom a b (i - n)
   equal-group n i h from group =
-      let e : i ≡ (i - n) + n = omega arith in
+      let e : (i - n) + n ≡ i = omega arith in
+      let rest : sameBytes (drop n (drop (i - n) a)) (drop n (drop (i - n) b)) ≡ true = rw (drop-drop n (i - n) a, drop-drop n (i - n) b, e) (from .behind) in
       record {
         within = omega arith;
         level = from .level;
-        behind = cc (sameBytes-equal (part a (i - n) n) (part b (i - n) n) group, take-append-drop n (drop (i - n) a), take-append-drop n (drop (i - n) b), drop-drop n (i - n) a, drop-drop n (i - n) b);
+        behind = sym (end-then-front (drop (i - n) a) (drop (i - n) b) n) ∙ true-both rest group;
       }
 
+  pub equal-byte : (i : ℕ) → 0 < i → EqualFrom a b i → getD a (i - 1) 0 ≡ getD b (i - 1) 0 → EqualFrom a b (i - 1)
+  equal-byte i h from byte =
+      equal-group 1 i h from
+      (rw (drop-cons a (i - 1) 0 (omega arith), drop-cons b (i - 1) 0 (omega arith), and-true) (eq-eqb (getD a (i - 1) 0) (getD b (i - 1) 0) byte))
+
   pub equal-whole : (i : ℕ) → i ≤ 0 → EqualFrom a b i → true ≡ sameBytes a b
-  equal-whole zero h from = sym (equal-sameBytes (from .behind))
+  equal-whole zero h from = sym (from .behind)
   equal-whole (suc i) h from = absurd (omega arith)
 
   -- Strings that differ in something, such as their length, are not the same.
