@@ -15,7 +15,7 @@ use Rattle.answers.specs.declared.Sizes.{Sizes}
 use Rattle.answers.specs.declared.Used.{Used}
 
 abbrev pub numberGiven : rules.Number → Number
-numberGiven n = record { number = n .number; row = record { 0 = n .row } }
+numberGiven n = record { number = n .number; row = record { 0 = n .row }; word = n .word }
 
 abbrev pub refusalGiven : Refusal → Number
 refusalGiven x = numberGiven (rules.numberOf x)

@@ -13,11 +13,13 @@ use rules::Row;
 use rules::Tested;
 use rules::Written;
 
-// The refusal's number and row; 0 and row 0 where nothing is refused.
+// The refusal's number, the row at fault, and the word, 2, 4, 6 or 8, of the offset of the field at fault. The row is 0 for a
+// refusal that names none, the word for one that names no field; all three are 0 where nothing is refused.
 #[repr(C)]
 pub struct Number {
     pub number: u32,
     pub row: Row,
+    pub word: u32,
 }
 
 // What a lookup found, and where. The place is 0, 0 for nothing, for a built-in and for a refusal.
@@ -62,6 +64,7 @@ pub struct Used {
 const NOT_REFUSED: Number = Number {
     number: 0,
     row: Row(0),
+    word: 0,
 };
 
 const NO_PLACE: Place = Place {
@@ -141,45 +144,31 @@ fn number_of(refusal: Refusal) -> Number
     ensures { λ r. ⌜ r ≡ refusalGiven refusal ⌝ }
 {
     match refusal {
-        Refusal::Size => Number {
-            number: 1,
-            row: Row(0),
-        },
-        Refusal::Structure(row) => Number { number: 2, row },
-        Refusal::Fields(row) => Number { number: 3, row },
-        Refusal::Names(row) => Number { number: 4, row },
-        Refusal::Namespace(row) => Number { number: 5, row },
-        Refusal::Declaration(row) => Number { number: 6, row },
-        Refusal::Double(row) => Number { number: 7, row },
-        Refusal::NoSuchRow => Number {
-            number: 8,
-            row: Row(0),
-        },
-        Refusal::Level1(row) => Number { number: 9, row },
-        Refusal::RowRoom => Number {
-            number: 10,
-            row: Row(0),
-        },
-        Refusal::PoolRoom => Number {
-            number: 11,
-            row: Row(0),
-        },
-        Refusal::Mark => Number {
-            number: 30,
-            row: Row(0),
-        },
-        Refusal::Version => Number {
-            number: 31,
-            row: Row(0),
-        },
-        Refusal::Lengths => Number {
-            number: 32,
-            row: Row(0),
-        },
-        Refusal::BundleRoom => Number {
-            number: 33,
-            row: Row(0),
-        },
+        Refusal::Size => Number::new(1, Row(0), 0),
+        Refusal::Structure(row) => Number::new(2, row, 0),
+        Refusal::PastPool { row, word } => Number::new(3, row, word),
+        Refusal::Names(row) => Number::new(4, row, 0),
+        Refusal::Namespace(row) => Number::new(5, row, 0),
+        Refusal::Declaration(row) => Number::new(6, row, 0),
+        Refusal::Double(row) => Number::new(7, row, 0),
+        Refusal::NoSuchRow => Number::new(8, Row(0), 0),
+        Refusal::Level1(row) => Number::new(9, row, 0),
+        Refusal::RowRoom => Number::new(10, Row(0), 0),
+        Refusal::PoolRoom => Number::new(11, Row(0), 0),
+        Refusal::OffsetWithoutLength { row, word } => Number::new(12, row, word),
+        Refusal::MustBeEmpty { row, word } => Number::new(13, row, word),
+        Refusal::Mark => Number::new(30, Row(0), 0),
+        Refusal::Version => Number::new(31, Row(0), 0),
+        Refusal::Lengths => Number::new(32, Row(0), 0),
+        Refusal::BundleRoom => Number::new(33, Row(0), 0),
+    }
+}
+
+impl Number {
+    fn new(number: u32, row: Row, word: u32) -> Self
+        ensures { λ r. ⌜ r ≡ record { number = number; row = row; word = word } ⌝ }
+    {
+        Self { number, row, word }
     }
 }
 

@@ -5,25 +5,25 @@ use native.Mathlib.Omega.{arith}
 use mathlib.Core.Path.{_≡_, refl, sym, _∙_, ap, subst}
 use mathlib.Core.Logic.{_⊎_, inl, inr}
 use mathlib.Core.Bool.{true, false, _&&_, _||_, not}
-use mathlib.Core.List.{List, [], _∷_, _++_}
+use mathlib.Core.List.{List, [], _∷_, _++_, map}
 use mathlib.Core.Option.{Option, none, some}
 use lib.ListN.{length, take, drop, length-drop}
 use lib.Seq.{length-take-le}
 use lib.Dec.{eqb, ltb}
 use borrow.Author.Tests.{eqb-true, eq-eqb, ltb-true, ltb-false}
 use Rattle.rules.specs.Lists.{anyOf, isOneOf, isEmpty, sameBytes}
-use Rattle.rules.specs.Table.{WIDTH, MOST-ROWS, MOST-BYTES, NONE, ELEMENT, ATTRIBUTE, DECLARATION, LEVEL1-ELEMENT, LEVEL1-ATTRIBUTE, xmlUri, xmlnsUri, xmlPrefix, xmlnsPrefix, part, Field, noField, Node, nodes, node, rowCount, isElement, ParentRule}
-use Rattle.rules.specs.Refusals.{badSize, parentRule, parentAllowed, secondElement, badStructure, badField, fullButMustBeEmpty, badFields, badNames, badNamespace, badDeclaration, isDouble, refusedIf, faults, conflicts, rowRefusal, lowestRefusal, checkRefusal, checked}
+use Rattle.rules.specs.Table.{WIDTH, MOST-ROWS, MOST-BYTES, NONE, PREFIX, LOCAL-NAME, URI, VALUE, ELEMENT, ATTRIBUTE, DECLARATION, LEVEL1-ELEMENT, LEVEL1-ATTRIBUTE, xmlUri, xmlnsUri, xmlPrefix, xmlnsPrefix, part, Field, noField, Node, wordedFields, nodes, node, rowCount, isElement, ParentRule}
+use Rattle.rules.specs.Refusals.{badSize, parentRule, parentAllowed, secondElement, badStructure, pastPool, offsetWithoutLength, placeRefusal, lengthRefusal, fieldsRefusal, badNames, badNamespace, badDeclaration, isDouble, refusedIf, faults, conflicts, rowRefusal, lowestRefusal, checkRefusal, checked}
 use Rattle.rules.specs.declared.Refusal.{Refusal}
 use Rattle.rules.specs.declared.Checked.{Checked}
 use Rattle.rules.proofs.Lists.{by-cases, both-true, both-false, right-false, true-both, not-false, true-not-false, empty-equal}
 use Rattle.rules.proofs.Table.{length-nodes, node-nodes}
 use Rattle.rules.proofs.Refusals.{not-refused, all-none, verdict-accepted, lowest-none}
 
--- Row r draws none of the refusals 2 to 7.
+-- Row r draws none of the refusals 2 to 7, 12 and 13.
 pub record RowAccepted (ns : List Node) (poolLength r : ℕ) : Type 0 where
   pub structure : badStructure ns r ≡ false
-  pub fields : badFields poolLength (node ns r) ≡ false
+  pub fields : fieldsRefusal poolLength r (node ns r) ≡ none
   pub names : badNames (node ns r) ≡ false
   pub namespace : badNamespace (node ns r) ≡ false
   pub declaration : badDeclaration (node ns r) ≡ false
@@ -35,7 +35,7 @@ row-accepted ns poolLength r e =
     let a = all-none (faults ns poolLength r ++ conflicts ns r) e in
     record {
       structure = not-refused _ _ (a .0);
-      fields = not-refused _ _ (a .1 .0);
+      fields = a .1 .0;
       names = not-refused _ _ (a .1 .1 .0);
       namespace = not-refused _ _ (a .1 .1 .1 .0);
       declaration = not-refused _ _ (a .1 .1 .1 .1 .0);
@@ -146,15 +146,15 @@ pub record FieldAccepted (poolLength : ℕ) (f : Field) : Type 0 where
   pub inPool : f .offset + f .size ≤ poolLength
   pub noOffset : f .size ≡ 0 → f .offset ≡ 0
 
-field-accepted : (poolLength : ℕ) (f : Field) → badField poolLength f ≡ false → FieldAccepted poolLength f
-field-accepted poolLength f e =
-    let both = both-false (ltb poolLength (f .offset + f .size)) (eqb (f .size) 0 && not (eqb (f .offset) 0)) e in
+field-accepted : (poolLength r word : ℕ) (f : Field) → placeRefusal poolLength r (word, f) ≡ none → FieldAccepted poolLength f
+field-accepted poolLength r word f e =
+    let a = all-none (refusedIf (pastPool poolLength f) (Refusal.PastPool (record { 0 = r }) word) ∷ refusedIf (offsetWithoutLength f) (Refusal.OffsetWithoutLength (record { 0 = r }) word) ∷ []) e in
     record {
-      inPool = ltb-false poolLength (f .offset + f .size) (both .0);
+      inPool = ltb-false poolLength (f .offset + f .size) (not-refused _ _ (a .0));
       noOffset = λ z.
           by-cases (eqb (f .offset) 0)
           (λ q. eqb-true (f .offset) 0 q)
-          (λ q. let s : (eqb (f .size) 0 && not (eqb (f .offset) 0)) ≡ true = rw (z, q) refl in absurd (true-not-false s (both .1)));
+          (λ q. let s : offsetWithoutLength f ≡ true = rw (z, q) refl in absurd (true-not-false s (not-refused _ _ (a .1 .0))));
     }
 
 -- The four fields of a row.
@@ -165,20 +165,15 @@ pub record FieldsAccepted (poolLength : ℕ) (n : Node) : Type 0 where
   pub value : FieldAccepted poolLength (n .value)
 
 pub fields-accepted : (ns : List Node) (poolLength r : ℕ) → RowAccepted ns poolLength r → FieldsAccepted poolLength (node ns r)
-unfolding badFields
+unfolding fieldsRefusal
 fields-accepted ns poolLength r a =
     let n = node ns r in
-    let bad = badField poolLength in
-    let all = both-false (anyOf bad (n .prefix ∷ n .local ∷ n .uri ∷ n .value ∷ [])) (fullButMustBeEmpty n) (a .fields) .0 in
-    let p = both-false (bad (n .prefix)) (anyOf bad (n .local ∷ n .uri ∷ n .value ∷ [])) all in
-    let l = both-false (bad (n .local)) (anyOf bad (n .uri ∷ n .value ∷ [])) (p .1) in
-    let u = both-false (bad (n .uri)) (anyOf bad (n .value ∷ [])) (l .1) in
-    let v = both-false (bad (n .value)) false (u .1) in
+    let each = all-none (map (placeRefusal poolLength r) (wordedFields n) ++ map (lengthRefusal (n .type) r) (wordedFields n)) (a .fields) in
     record {
-      prefix = field-accepted poolLength (n .prefix) (p .0);
-      local = field-accepted poolLength (n .local) (l .0);
-      uri = field-accepted poolLength (n .uri) (u .0);
-      value = field-accepted poolLength (n .value) (v .0);
+      prefix = field-accepted poolLength r PREFIX (n .prefix) (each .0);
+      local = field-accepted poolLength r LOCAL-NAME (n .local) (each .1 .0);
+      uri = field-accepted poolLength r URI (n .uri) (each .1 .1 .0);
+      value = field-accepted poolLength r VALUE (n .value) (each .1 .1 .1 .0);
     }
 
 -- A field of an accepted table that has no bytes.

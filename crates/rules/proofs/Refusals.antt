@@ -3,7 +3,7 @@
 use Prim.Native.Nat.{ℕ, zero, suc, _+_, _-_, _≤_, _<_}
 use mathlib.Core.Path.{_≡_, refl, sym, ap, _∙_, subst}
 use mathlib.Core.Bool.{Bool, true, false}
-use mathlib.Core.List.{List, [], _∷_, map}
+use mathlib.Core.List.{List, [], _∷_, _++_, map}
 use mathlib.Core.Option.{Option, none, some, Option·none-ne-some}
 use native.Mathlib.Nat.{le-of-suc-le-suc, not-suc-le-zero, zero-add}
 use native.Mathlib.Numerals.{add-one}
@@ -40,6 +40,23 @@ verdict-accepted (some x) e = cc
 pub verdict-refused : (o : Option Refusal) (x : Refusal) → verdict o ≡ Checked.Refused x → o ≡ some x
 verdict-refused none x e = cc
 verdict-refused (some y) x e = cc
+
+-- What the first of a list is, from the verdicts on its members one by one.
+pub first-alone : (o : Option Refusal) → o ≡ firstRefusal (o ∷ [])
+first-alone none = refl
+first-alone (some x) = refl
+
+pub first-append : (os later : List (Option Refusal)) → firstRefusal (os ++ later) ≡ firstRefusal (firstRefusal os ∷ firstRefusal later ∷ [])
+first-append [] later = first-alone (firstRefusal later)
+first-append (none ∷ os) later = first-append os later
+first-append (some x ∷ os) later = refl
+
+module _ (o : Option Refusal) (later : List (Option Refusal)) {drawn : Checked} (d : drawn ≡ verdict o) where
+  pub first-refused : (x : Refusal) → drawn ≡ Checked.Refused x → drawn ≡ verdict (firstRefusal (o ∷ later))
+  first-refused x e = let s = verdict-refused o x (sym d ∙ e) in rw s e
+
+  pub first-passed : drawn ≡ Checked.Accepted → firstRefusal (o ∷ later) ≡ firstRefusal later
+  first-passed e = let n = verdict-accepted o (sym d ∙ e) in rw n refl
 
 -- Rows ascending: what the rows from r on are refused for.
 module _ (row : ℕ → Option Refusal) (count : ℕ) where

@@ -296,7 +296,7 @@ pub refusal-numbered : (x : Refusal) → eqb (numberOf x .number) 0 ≡ false
 unfolding numberOf
 refusal-numbered Refusal.Size = refl
 refusal-numbered (Refusal.Structure r) = refl
-refusal-numbered (Refusal.Fields r) = refl
+refusal-numbered (Refusal.PastPool r w) = refl
 refusal-numbered (Refusal.Names r) = refl
 refusal-numbered (Refusal.Namespace r) = refl
 refusal-numbered (Refusal.Declaration r) = refl
@@ -305,6 +305,8 @@ refusal-numbered Refusal.NoSuchRow = refl
 refusal-numbered (Refusal.Level1 r) = refl
 refusal-numbered Refusal.RowRoom = refl
 refusal-numbered Refusal.PoolRoom = refl
+refusal-numbered (Refusal.OffsetWithoutLength r w) = refl
+refusal-numbered (Refusal.MustBeEmpty r w) = refl
 refusal-numbered Refusal.Mark = refl
 refusal-numbered Refusal.Version = refl
 refusal-numbered Refusal.Lengths = refl

@@ -1,5 +1,5 @@
--- RULES 2, answers: the refusal's number and row, the place, and the sizes that each of them stands for.
--- An accepted check and a success have refusal number 0 and row 0.
+-- RULES 2, answers: the refusal's number, row and word, the place, and the sizes that each of them stands for.
+-- An accepted check and a success have refusal number 0, row 0 and word 0.
 use Prim.Native.Nat.{ℕ}
 use mathlib.Core.Bool.{Bool, true, false}
 use mathlib.Core.List.{List, []}
@@ -14,30 +14,33 @@ use Rattle.rules.specs.declared.Normalized.{Normalized}
 use Rattle.rules.specs.declared.Read.{Read}
 use Rattle.rules.specs.declared.Written.{Written}
 
--- A refusal and its row, as the host sees them.
+-- A refusal, its row, and the word of the offset of the field at fault, as the host sees them.
 pub record Number : Type 0 where
   pub number : ℕ
   pub row : ℕ
+  pub word : ℕ
 
 unfoldable pub numberOf : Refusal → Number
-numberOf Refusal.Size = record { number = 1; row = 0 }
-numberOf (Refusal.Structure r) = record { number = 2; row = r .0 }
-numberOf (Refusal.Fields r) = record { number = 3; row = r .0 }
-numberOf (Refusal.Names r) = record { number = 4; row = r .0 }
-numberOf (Refusal.Namespace r) = record { number = 5; row = r .0 }
-numberOf (Refusal.Declaration r) = record { number = 6; row = r .0 }
-numberOf (Refusal.Double r) = record { number = 7; row = r .0 }
-numberOf Refusal.NoSuchRow = record { number = 8; row = 0 }
-numberOf (Refusal.Level1 r) = record { number = 9; row = r .0 }
-numberOf Refusal.RowRoom = record { number = 10; row = 0 }
-numberOf Refusal.PoolRoom = record { number = 11; row = 0 }
-numberOf Refusal.Mark = record { number = 30; row = 0 }
-numberOf Refusal.Version = record { number = 31; row = 0 }
-numberOf Refusal.Lengths = record { number = 32; row = 0 }
-numberOf Refusal.BundleRoom = record { number = 33; row = 0 }
+numberOf Refusal.Size = record { number = 1; row = 0; word = 0 }
+numberOf (Refusal.Structure r) = record { number = 2; row = r .0; word = 0 }
+numberOf (Refusal.PastPool r w) = record { number = 3; row = r .0; word = w }
+numberOf (Refusal.Names r) = record { number = 4; row = r .0; word = 0 }
+numberOf (Refusal.Namespace r) = record { number = 5; row = r .0; word = 0 }
+numberOf (Refusal.Declaration r) = record { number = 6; row = r .0; word = 0 }
+numberOf (Refusal.Double r) = record { number = 7; row = r .0; word = 0 }
+numberOf Refusal.NoSuchRow = record { number = 8; row = 0; word = 0 }
+numberOf (Refusal.Level1 r) = record { number = 9; row = r .0; word = 0 }
+numberOf Refusal.RowRoom = record { number = 10; row = 0; word = 0 }
+numberOf Refusal.PoolRoom = record { number = 11; row = 0; word = 0 }
+numberOf (Refusal.OffsetWithoutLength r w) = record { number = 12; row = r .0; word = w }
+numberOf (Refusal.MustBeEmpty r w) = record { number = 13; row = r .0; word = w }
+numberOf Refusal.Mark = record { number = 30; row = 0; word = 0 }
+numberOf Refusal.Version = record { number = 31; row = 0; word = 0 }
+numberOf Refusal.Lengths = record { number = 32; row = 0; word = 0 }
+numberOf Refusal.BundleRoom = record { number = 33; row = 0; word = 0 }
 
 abbrev pub notRefused : Number
-notRefused = record { number = 0; row = 0 }
+notRefused = record { number = 0; row = 0; word = 0 }
 
 unfoldable pub checkNumber : Checked → Number
 checkNumber Checked.Accepted = notRefused

@@ -1,4 +1,4 @@
--- RULES 3, refusals: how they are ordered, and the check, refusals 1 to 7. Refusal 8 stands with the lookups,
+-- RULES 3, refusals: how they are ordered, and the check, refusals 1 to 7, 12 and 13. Refusal 8 stands with the lookups,
 -- 9 to 11 with normalization.
 use Prim.Native.Nat.{ℕ, _+_, _*_, _%_}
 use mathlib.Core.Bool.{Bool, true, false, cond, _&&_, _||_, not}
@@ -7,7 +7,7 @@ use mathlib.Core.Option.{Option, none, some}
 use lib.ListN.{length, take}
 use lib.Dec.{eqb, ltb, leb}
 use Rattle.rules.specs.Lists.{firstThat, anyOf, allOf, numbersFrom, isOneOf, isEmpty, sameBytes}
-use Rattle.rules.specs.Table.{WIDTH, MOST-ROWS, MOST-BYTES, NONE, ELEMENT, ATTRIBUTE, DOCUMENT, DECLARATION, LEVEL1-ELEMENT, LEVEL1-ATTRIBUTE, xmlUri, xmlnsUri, xmlPrefix, xmlnsPrefix, Field, Node, fields, rowCount, nodes, node, isElement, isLevel1, ParentRule, allowedParents}
+use Rattle.rules.specs.Table.{WIDTH, MOST-ROWS, MOST-BYTES, NONE, PREFIX, LOCAL-NAME, URI, VALUE, ELEMENT, ATTRIBUTE, DOCUMENT, DECLARATION, LEVEL1-ELEMENT, LEVEL1-ATTRIBUTE, xmlUri, xmlnsUri, xmlPrefix, xmlnsPrefix, Field, Node, wordedFields, rowCount, nodes, node, isElement, isLevel1, ParentRule, allowedParents}
 use Rattle.rules.specs.declared.Refusal.{Refusal}
 use Rattle.rules.specs.declared.Checked.{Checked}
 
@@ -60,23 +60,41 @@ secondElement ns r =
 unfoldable pub badStructure : List Node → ℕ → Bool
 badStructure ns r = not (parentAllowed ns r (node ns r .parent) (parentRule (node ns r .type))) || secondElement ns r
 
--- 3: a field runs past the pool; length 0 with offset not 0; a field that is not empty and must be.
-abbrev pub badField : ℕ → Field → Bool
-badField poolLength f = ltb poolLength (f .offset + f .size) || (eqb (f .size) 0 && not (eqb (f .offset) 0))
+-- 3: a field runs past the pool.
+abbrev pub pastPool : ℕ → Field → Bool
+pastPool poolLength f = ltb poolLength (f .offset + f .size)
 
-abbrev pub isFull : Field → Bool
-isFull f = not (eqb (f .size) 0)
+-- 12: length 0 with offset not 0.
+abbrev pub offsetWithoutLength : Field → Bool
+offsetWithoutLength f = eqb (f .size) 0 && not (eqb (f .offset) 0)
 
 -- Must be empty: the value of elements; prefix and URI of 13, 257, 258; prefix, local name and URI of all types but 1, 2,
--- 13, 257, 258.
-unfoldable pub fullButMustBeEmpty : Node → Bool
-fullButMustBeEmpty n =
-    (isElement (n .type) && isFull (n .value))
-    || (isOneOf (DECLARATION ∷ LEVEL1-ELEMENT ∷ LEVEL1-ATTRIBUTE ∷ []) (n .type) && (isFull (n .prefix) || isFull (n .uri)))
-    || (not (isOneOf (ELEMENT ∷ ATTRIBUTE ∷ DECLARATION ∷ LEVEL1-ELEMENT ∷ LEVEL1-ATTRIBUTE ∷ []) (n .type)) && (isFull (n .prefix) || isFull (n .local) || isFull (n .uri)))
+-- 13, 257, 258. A field is given by the word of its offset.
+unfoldable pub mustBeEmpty : ℕ → ℕ → Bool
+mustBeEmpty type word =
+    (isElement type && eqb word VALUE)
+    || (isOneOf (DECLARATION ∷ LEVEL1-ELEMENT ∷ LEVEL1-ATTRIBUTE ∷ []) type && isOneOf (PREFIX ∷ URI ∷ []) word)
+    || (not (isOneOf (ELEMENT ∷ ATTRIBUTE ∷ DECLARATION ∷ LEVEL1-ELEMENT ∷ LEVEL1-ATTRIBUTE ∷ []) type) && isOneOf (PREFIX ∷ LOCAL-NAME ∷ URI ∷ []) word)
 
-unfoldable pub badFields : ℕ → Node → Bool
-badFields poolLength n = anyOf (badField poolLength) (fields n) || fullButMustBeEmpty n
+-- 13: a field is not empty and must be.
+abbrev pub fullButMustBeEmpty : ℕ → ℕ → Field → Bool
+fullButMustBeEmpty type word f = mustBeEmpty type word && not (eqb (f .size) 0)
+
+-- What a field of row r, with the word of its offset, is refused for: by its place, 3 before 12; by its length, 13.
+abbrev pub placeRefusal : ℕ → ℕ → ℕ × Field → Option Refusal
+placeRefusal poolLength r (word, f) =
+    firstRefusal
+    (refusedIf (pastPool poolLength f) (Refusal.PastPool (record { 0 = r }) word)
+    ∷ refusedIf (offsetWithoutLength f) (Refusal.OffsetWithoutLength (record { 0 = r }) word)
+    ∷ [])
+
+abbrev pub lengthRefusal : ℕ → ℕ → ℕ × Field → Option Refusal
+lengthRefusal type r (word, f) = refusedIf (fullButMustBeEmpty type word f) (Refusal.MustBeEmpty (record { 0 = r }) word)
+
+-- The fields of row r in word order, each tried for 3 and then 12; where none is refused, all of them for 13.
+unfoldable pub fieldsRefusal : ℕ → ℕ → Node → Option Refusal
+fieldsRefusal poolLength r n =
+    firstRefusal (map (placeRefusal poolLength r) (wordedFields n) ++ map (lengthRefusal (n .type) r) (wordedFields n))
 
 -- 4: an empty local name in 1, 2, 257, 258; a bad byte in a prefix or local name. Good: ASCII letters, digits, - . _, bytes
 -- from 128; the first is no digit, - or . In 257 and 258 : is good everywhere.
@@ -135,12 +153,12 @@ isDouble n earlier =
     && sameBytes (earlier .local .bytes) (n .local .bytes)
     && (isOneOf (DECLARATION ∷ LEVEL1-ATTRIBUTE ∷ []) (n .type) || (eqb (n .type) ATTRIBUTE && sameBytes (earlier .uri .bytes) (n .uri .bytes)))
 
--- What row r is tried for, in order: its faults, 2 to 5, and then what makes it a declaration or attribute that may not stand
+-- What row r is tried for, in order: its faults, 2 to 5 with 12 and 13 after 3, and then what makes it a declaration or attribute that may not stand
 -- there, 6 and 7.
 unfoldable pub faults : List Node → ℕ → ℕ → List (Option Refusal)
 faults ns poolLength r =
     refusedIf (badStructure ns r) (Refusal.Structure (record { 0 = r }))
-    ∷ refusedIf (badFields poolLength (node ns r)) (Refusal.Fields (record { 0 = r }))
+    ∷ fieldsRefusal poolLength r (node ns r)
     ∷ refusedIf (badNames (node ns r)) (Refusal.Names (record { 0 = r }))
     ∷ refusedIf (badNamespace (node ns r)) (Refusal.Namespace (record { 0 = r }))
     ∷ []

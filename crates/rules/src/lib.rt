@@ -70,14 +70,14 @@ pub struct Place {
     pub length: u32,
 }
 
-// Why an operation refuses its input; the row is the one at fault.
+// Why an operation refuses its input; the row is the one at fault, and the word that of the faulty field's offset.
 pub enum Refusal {
     // 1: the table is not whole rows, or the table or the pool is too long.
     Size,
     // 2: an unknown type, a parent that is not allowed, or a document's second element.
     Structure(Row),
-    // 3: a field that runs past the pool, has an offset without a length, or must be empty.
-    Fields(Row),
+    // 3: a field that runs past the pool.
+    PastPool { row: Row, word: u32 },
     // 4: a local name is missing, or a name holds a byte that it may not.
     Names(Row),
     // 5: an element's or attribute's prefix and URI do not go together.
@@ -94,6 +94,10 @@ pub enum Refusal {
     RowRoom,
     // 11: the result has more pool bytes than a pool or the output can hold.
     PoolRoom,
+    // 12: a field that has an offset and no length.
+    OffsetWithoutLength { row: Row, word: u32 },
+    // 13: a field that has a length and must be empty.
+    MustBeEmpty { row: Row, word: u32 },
     // 30: a bundle's mark is another, or not whole.
     Mark,
     // 31: a bundle is of another version, or ends before it.
