@@ -10,18 +10,21 @@ use Rattle.rules.specs.Answers.{checkNumber, readNumber, readRows, readBytes, w
 use Rattle.bundles.specs.Bundles.{writeBundle}
 use Rattle.bundles.specs.Operations.{ReadOutcome, WriteOutcome, tableWritten, bundleRead, bundleChecked, bundleNormalized}
 
--- The refusal's number and row of the check of a bundle.
+-- The refusal's number, row and word of the check of a bundle.
 unfoldable pub checkGives : List ℕ → List ℕ
-checkGives bytes = checkNumber (bundleChecked bytes) .number ∷ checkNumber (bundleChecked bytes) .row ∷ []
+checkGives bytes =
+    checkNumber (bundleChecked bytes) .number ∷ checkNumber (bundleChecked bytes) .row ∷ checkNumber (bundleChecked bytes) .word ∷ []
 
--- The refusal's number and row, the rows and the pool bytes, and the two outputs.
+-- The refusal's number, row and word, the rows and the pool bytes, and the two outputs.
 unfoldable pub readGives : ReadOutcome → List (List ℕ)
 readGives o =
-    (readNumber (o .answer) .number ∷ readNumber (o .answer) .row ∷ readRows (o .answer) ∷ readBytes (o .answer) ∷ []) ∷ o .table ∷ o .pool ∷ []
+    (readNumber (o .answer) .number ∷ readNumber (o .answer) .row ∷ readNumber (o .answer) .word ∷ readRows (o .answer) ∷ readBytes (o .answer) ∷ [])
+    ∷ o .table ∷ o .pool ∷ []
 
--- The refusal's number and row, the bytes, and the output.
+-- The refusal's number, row and word, the bytes, and the output.
 unfoldable pub writeGives : WriteOutcome → List (List ℕ)
-writeGives o = (writtenNumber (o .answer) .number ∷ writtenNumber (o .answer) .row ∷ writtenBytes (o .answer) ∷ []) ∷ o .bytes ∷ []
+writeGives o =
+    (writtenNumber (o .answer) .number ∷ writtenNumber (o .answer) .row ∷ writtenNumber (o .answer) .word ∷ writtenBytes (o .answer) ∷ []) ∷ o .bytes ∷ []
 
 unfoldable pub sameLists : List (List ℕ) → List (List ℕ) → Bool
 sameLists [] [] = true
@@ -74,40 +77,42 @@ cases =
     -- the 54 bytes of example A
     record { gives = writeBundle tableA poolA ∷ []; expected = bundleA ∷ [] }
     -- written into 54 bytes, into 56, and into 53
-    ∷ record { gives = writeGives (tableWritten tableA poolA 54); expected = (0 ∷ 0 ∷ 54 ∷ []) ∷ bundleA ∷ [] }
-    ∷ record { gives = writeGives (tableWritten tableA poolA 56); expected = (0 ∷ 0 ∷ 54 ∷ []) ∷ (bundleA ++ 0 ∷ 0 ∷ []) ∷ [] }
-    ∷ record { gives = writeGives (tableWritten tableA poolA 53); expected = (33 ∷ 0 ∷ 0 ∷ []) ∷ replicate 53 0 ∷ [] }
+    ∷ record { gives = writeGives (tableWritten tableA poolA 54); expected = (0 ∷ 0 ∷ 0 ∷ 54 ∷ []) ∷ bundleA ∷ [] }
+    ∷ record { gives = writeGives (tableWritten tableA poolA 56); expected = (0 ∷ 0 ∷ 0 ∷ 54 ∷ []) ∷ (bundleA ++ 0 ∷ 0 ∷ []) ∷ [] }
+    ∷ record { gives = writeGives (tableWritten tableA poolA 53); expected = (33 ∷ 0 ∷ 0 ∷ 0 ∷ []) ∷ replicate 53 0 ∷ [] }
     -- 11 words, and too little room: 1
-    ∷ record { gives = writeGives (tableWritten (tableA ++ 0 ∷ []) poolA 8); expected = (1 ∷ 0 ∷ 0 ∷ []) ∷ replicate 8 0 ∷ [] }
+    ∷ record { gives = writeGives (tableWritten (tableA ++ 0 ∷ []) poolA 8); expected = (1 ∷ 0 ∷ 0 ∷ 0 ∷ []) ∷ replicate 8 0 ∷ [] }
     -- read into one row and two bytes, and into more
-    ∷ record { gives = readGives (bundleRead bundleA 10 2); expected = (0 ∷ 0 ∷ 1 ∷ 2 ∷ []) ∷ tableA ∷ poolA ∷ [] }
-    ∷ record { gives = readGives (bundleRead bundleA 23 3); expected = (0 ∷ 0 ∷ 1 ∷ 2 ∷ []) ∷ (tableA ++ replicate 13 0) ∷ (poolA ++ 0 ∷ []) ∷ [] }
+    ∷ record { gives = readGives (bundleRead bundleA 10 2); expected = (0 ∷ 0 ∷ 0 ∷ 1 ∷ 2 ∷ []) ∷ tableA ∷ poolA ∷ [] }
+    ∷ record { gives = readGives (bundleRead bundleA 23 3); expected = (0 ∷ 0 ∷ 0 ∷ 1 ∷ 2 ∷ []) ∷ (tableA ++ replicate 13 0) ∷ (poolA ++ 0 ∷ []) ∷ [] }
     -- one word too few: 10, also where the pool is too short; one byte too few: 11
-    ∷ record { gives = readGives (bundleRead bundleA 9 1); expected = (10 ∷ 0 ∷ 0 ∷ 0 ∷ []) ∷ replicate 9 0 ∷ replicate 1 0 ∷ [] }
-    ∷ record { gives = readGives (bundleRead bundleA 10 1); expected = (11 ∷ 0 ∷ 0 ∷ 0 ∷ []) ∷ replicate 10 0 ∷ replicate 1 0 ∷ [] }
+    ∷ record { gives = readGives (bundleRead bundleA 9 1); expected = (10 ∷ 0 ∷ 0 ∷ 0 ∷ 0 ∷ []) ∷ replicate 9 0 ∷ replicate 1 0 ∷ [] }
+    ∷ record { gives = readGives (bundleRead bundleA 10 1); expected = (11 ∷ 0 ∷ 0 ∷ 0 ∷ 0 ∷ []) ∷ replicate 10 0 ∷ replicate 1 0 ∷ [] }
     -- the check of the bundle, and of its first 0 to 53 bytes: 30 before 3 bytes, 31 before 5, then 32
-    ∷ record { gives = checkGives bundleA ∷ []; expected = (0 ∷ 0 ∷ []) ∷ [] }
-    ∷ record { gives = map (λ (n : ℕ). checkGives (take n bundleA)) (numbersFrom 0 3); expected = replicate 3 (30 ∷ 0 ∷ []) }
-    ∷ record { gives = map (λ (n : ℕ). checkGives (take n bundleA)) (numbersFrom 3 2); expected = replicate 2 (31 ∷ 0 ∷ []) }
-    ∷ record { gives = map (λ (n : ℕ). checkGives (take n bundleA)) (numbersFrom 5 49); expected = replicate 49 (32 ∷ 0 ∷ []) }
+    ∷ record { gives = checkGives bundleA ∷ []; expected = (0 ∷ 0 ∷ 0 ∷ []) ∷ [] }
+    ∷ record { gives = map (λ (n : ℕ). checkGives (take n bundleA)) (numbersFrom 0 3); expected = replicate 3 (30 ∷ 0 ∷ 0 ∷ []) }
+    ∷ record { gives = map (λ (n : ℕ). checkGives (take n bundleA)) (numbersFrom 3 2); expected = replicate 2 (31 ∷ 0 ∷ 0 ∷ []) }
+    ∷ record { gives = map (λ (n : ℕ). checkGives (take n bundleA)) (numbersFrom 5 49); expected = replicate 49 (32 ∷ 0 ∷ 0 ∷ []) }
     -- one byte more
-    ∷ record { gives = checkGives (bundleA ++ 0 ∷ []) ∷ []; expected = (32 ∷ 0 ∷ []) ∷ [] }
+    ∷ record { gives = checkGives (bundleA ++ 0 ∷ []) ∷ []; expected = (32 ∷ 0 ∷ 0 ∷ []) ∷ [] }
     -- another mark; version 2, and 1 with its high byte first; a zero byte that is 1
-    ∷ record { gives = checkGives (damaged (78 ∷ 84 ∷ 67 ∷ 1 ∷ 0 ∷ 0 ∷ [])) ∷ []; expected = (30 ∷ 0 ∷ []) ∷ [] }
-    ∷ record { gives = checkGives (damaged (78 ∷ 84 ∷ 66 ∷ 2 ∷ 0 ∷ 0 ∷ [])) ∷ []; expected = (31 ∷ 0 ∷ []) ∷ [] }
-    ∷ record { gives = checkGives (damaged (78 ∷ 84 ∷ 66 ∷ 0 ∷ 1 ∷ 0 ∷ [])) ∷ []; expected = (31 ∷ 0 ∷ []) ∷ [] }
-    ∷ record { gives = checkGives (damaged (78 ∷ 84 ∷ 66 ∷ 1 ∷ 0 ∷ 1 ∷ [])) ∷ []; expected = (32 ∷ 0 ∷ []) ∷ [] }
+    ∷ record { gives = checkGives (damaged (78 ∷ 84 ∷ 67 ∷ 1 ∷ 0 ∷ 0 ∷ [])) ∷ []; expected = (30 ∷ 0 ∷ 0 ∷ []) ∷ [] }
+    ∷ record { gives = checkGives (damaged (78 ∷ 84 ∷ 66 ∷ 2 ∷ 0 ∷ 0 ∷ [])) ∷ []; expected = (31 ∷ 0 ∷ 0 ∷ []) ∷ [] }
+    ∷ record { gives = checkGives (damaged (78 ∷ 84 ∷ 66 ∷ 0 ∷ 1 ∷ 0 ∷ [])) ∷ []; expected = (31 ∷ 0 ∷ 0 ∷ []) ∷ [] }
+    ∷ record { gives = checkGives (damaged (78 ∷ 84 ∷ 66 ∷ 1 ∷ 0 ∷ 1 ∷ [])) ∷ []; expected = (32 ∷ 0 ∷ 0 ∷ []) ∷ [] }
     -- the first of several faults: all three, the last two, and an unknown type, alone and in a bundle that is cut
-    ∷ record { gives = checkGives (damaged (110 ∷ 84 ∷ 66 ∷ 2 ∷ 0 ∷ 1 ∷ [])) ∷ []; expected = (30 ∷ 0 ∷ []) ∷ [] }
-    ∷ record { gives = checkGives (damaged (78 ∷ 84 ∷ 66 ∷ 2 ∷ 0 ∷ 1 ∷ [])) ∷ []; expected = (31 ∷ 0 ∷ []) ∷ [] }
-    ∷ record { gives = checkGives (headerA ++ rowA 99 ++ poolA) ∷ []; expected = (2 ∷ 0 ∷ []) ∷ [] }
-    ∷ record { gives = checkGives (take 53 (headerA ++ rowA 99 ++ poolA)) ∷ []; expected = (32 ∷ 0 ∷ []) ∷ [] }
+    ∷ record { gives = checkGives (damaged (110 ∷ 84 ∷ 66 ∷ 2 ∷ 0 ∷ 1 ∷ [])) ∷ []; expected = (30 ∷ 0 ∷ 0 ∷ []) ∷ [] }
+    ∷ record { gives = checkGives (damaged (78 ∷ 84 ∷ 66 ∷ 2 ∷ 0 ∷ 1 ∷ [])) ∷ []; expected = (31 ∷ 0 ∷ 0 ∷ []) ∷ [] }
+    ∷ record { gives = checkGives (headerA ++ rowA 99 ++ poolA) ∷ []; expected = (2 ∷ 0 ∷ 0 ∷ []) ∷ [] }
+    ∷ record { gives = checkGives (take 53 (headerA ++ rowA 99 ++ poolA)) ∷ []; expected = (32 ∷ 0 ∷ 0 ∷ []) ∷ [] }
+    -- a pool of one byte: the URI, whose offset is word 6, runs past it
+    ∷ record { gives = checkGives ((78 ∷ 84 ∷ 66 ∷ 1 ∷ 0 ∷ 0 ∷ 1 ∷ 0 ∷ 1 ∷ 0 ∷ 0 ∷ 0 ∷ []) ++ rowA 1 ++ 97 ∷ []) ∷ []; expected = (3 ∷ 0 ∷ 6 ∷ []) ∷ [] }
     -- normalized into exactly enough bytes, into more, and into one too few
-    ∷ record { gives = writeGives (bundleNormalized bundleA 94); expected = (0 ∷ 0 ∷ 94 ∷ []) ∷ normalA ∷ [] }
-    ∷ record { gives = writeGives (bundleNormalized bundleA 97); expected = (0 ∷ 0 ∷ 94 ∷ []) ∷ (normalA ++ 0 ∷ 0 ∷ 0 ∷ []) ∷ [] }
-    ∷ record { gives = writeGives (bundleNormalized bundleA 93); expected = (33 ∷ 0 ∷ 0 ∷ []) ∷ replicate 93 0 ∷ [] }
+    ∷ record { gives = writeGives (bundleNormalized bundleA 94); expected = (0 ∷ 0 ∷ 0 ∷ 94 ∷ []) ∷ normalA ∷ [] }
+    ∷ record { gives = writeGives (bundleNormalized bundleA 97); expected = (0 ∷ 0 ∷ 0 ∷ 94 ∷ []) ∷ (normalA ++ 0 ∷ 0 ∷ 0 ∷ []) ∷ [] }
+    ∷ record { gives = writeGives (bundleNormalized bundleA 93); expected = (33 ∷ 0 ∷ 0 ∷ 0 ∷ []) ∷ replicate 93 0 ∷ [] }
     -- a bundle that is cut is not normalized
-    ∷ record { gives = writeGives (bundleNormalized (take 53 bundleA) 94); expected = (32 ∷ 0 ∷ 0 ∷ []) ∷ replicate 94 0 ∷ [] }
+    ∷ record { gives = writeGives (bundleNormalized (take 53 bundleA) 94); expected = (32 ∷ 0 ∷ 0 ∷ 0 ∷ []) ∷ replicate 94 0 ∷ [] }
     ∷ []
 
 -- Every case comes out as it should.

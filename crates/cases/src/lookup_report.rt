@@ -36,7 +36,12 @@ fn refused(given: Number) -> bool {
     if given.number == 0 {
         return false;
     }
-    texts::refusal(texts::REFUSED, texts::REFUSED_ROW, given);
+    texts::refusal(
+        texts::REFUSED,
+        texts::REFUSED_ROW,
+        texts::REFUSED_WORD,
+        given,
+    );
     true
 }
 

@@ -8,69 +8,73 @@ pub const REFUSAL: usize = 0;
 
 pub const ROW: usize = 1;
 
-pub const LINE: usize = 2;
+pub const WORD: usize = 2;
+
+pub const LINE: usize = 3;
 
 // Of the lookups.
-pub const URI: usize = 3;
+pub const URI: usize = 4;
 
-pub const PREFIX: usize = 4;
+pub const PREFIX: usize = 5;
 
-pub const DEFAULT: usize = 5;
+pub const DEFAULT: usize = 6;
 
-pub const IN_SCOPE_URI: usize = 6;
+pub const IN_SCOPE_URI: usize = 7;
 
-pub const REFUSED: usize = 7;
+pub const REFUSED: usize = 8;
 
-pub const REFUSED_ROW: usize = 8;
+pub const REFUSED_ROW: usize = 9;
 
-pub const SPACE: usize = 9;
+pub const REFUSED_WORD: usize = 10;
 
-pub const NOTHING: usize = 10;
+pub const SPACE: usize = 11;
 
-pub const NONE: usize = 11;
+pub const NOTHING: usize = 12;
 
-pub const XML: usize = 12;
+pub const NONE: usize = 13;
 
-pub const XMLNS: usize = 13;
+pub const XML: usize = 14;
 
-pub const YES: usize = 14;
+pub const XMLNS: usize = 15;
 
-pub const NO: usize = 15;
+pub const YES: usize = 16;
+
+pub const NO: usize = 17;
 
 // Of the parts of the pool.
-pub const URI_PART: usize = 16;
+pub const URI_PART: usize = 18;
 
-pub const PREFIX_PART: usize = 17;
+pub const PREFIX_PART: usize = 19;
 
-pub const PART_END: usize = 18;
+pub const PART_END: usize = 20;
 
 // Of normalization.
-pub const ROWS: usize = 19;
+pub const ROWS: usize = 21;
 
-pub const BYTES: usize = 20;
+pub const BYTES: usize = 22;
 
-pub const POOL: usize = 21;
+pub const POOL: usize = 23;
 
-pub const KEPT: usize = 22;
+pub const KEPT: usize = 24;
 
-pub const NOT_KEPT: usize = 23;
+pub const NOT_KEPT: usize = 25;
 
-pub const APPENDED: usize = 24;
+pub const APPENDED: usize = 26;
 
-pub const ZERO: usize = 25;
+pub const ZERO: usize = 27;
 
-pub const NOT_ZERO: usize = 26;
+pub const NOT_ZERO: usize = 28;
 
-pub const CHANGED_ROW: usize = 27;
+pub const CHANGED_ROW: usize = 29;
 
-pub const WORDS: usize = 28;
+pub const WORDS: usize = 30;
 
 // A text.
 pub fn write(text: usize) {
     io::write_all(
         1,
         part(
-            b": refusal |, row |\n|: URI |, prefix |, default |, in scope: URI |refusal | row | |nothing|none|built-in xml|built-in xmlns|yes|no|: URI <|>, prefix <|>\n|, | rows, | bytes|, pool kept, appended <|, pool not kept, appended <|>|, the rest zero\n|, the rest NOT zero\n|  row |:",
+            b": refusal |, row |, word |\n|: URI |, prefix |, default |, in scope: URI |refusal | row | word | |nothing|none|built-in xml|built-in xmlns|yes|no|: URI <|>, prefix <|>\n|, | rows, | bytes|, pool kept, appended <|, pool not kept, appended <|>|, the rest zero\n|, the rest NOT zero\n|  row |:",
             text,
         ),
     );
@@ -103,9 +107,10 @@ pub fn either(first: bool, yes: usize, no: usize) {
     write(no);
 }
 
-// The number and row of a refusal, each after its text.
-pub fn refusal(number_text: usize, row_text: usize, given: Number) {
+// The number, row and word of a refusal, each after its text.
+pub fn refusal(number_text: usize, row_text: usize, word_text: usize, given: Number) {
     say(number_text, given.number as usize);
     let row = given.row;
     say(row_text, row.0 as usize);
+    say(word_text, given.word as usize);
 }

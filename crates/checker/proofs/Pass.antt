@@ -1,18 +1,18 @@
 -- The pass over the rows: what one row is refused for, and what the rows that are left are.
 -- Assumes nothing.
 use Prim.Native.Nat.{ℕ, _+_, _≤_, _<_}
-use mathlib.Core.Path.{_≡_, refl, sym, ap, _∙_}
+use mathlib.Core.Path.{_≡_, sym, ap, _∙_}
 use mathlib.Core.Bool.{Bool, true, false}
-use mathlib.Core.List.{List, [], _∷_}
-use mathlib.Core.Option.{Option, none, some}
+use mathlib.Core.List.{List}
+use mathlib.Core.Option.{none}
 use native.Mathlib.Omega.{arith}
 use lib.ListN.{length, replicate, length-replicate, getD-replicate}
 use Rattle.rules.specs.Table.{MOST-ROWS, NONE, nodeAt, nodes, rowCount, isElement}
-use Rattle.rules.specs.Refusals.{badSize, badStructure, badFields, badNames, badNamespace, badDeclaration, faults, conflicts, rowRefusal, firstRefusal, verdict, checkRefusal, checked}
+use Rattle.rules.specs.Refusals.{badSize, badStructure, fieldsRefusal, badNames, badNamespace, badDeclaration, faults, conflicts, rowRefusal, verdict, checkRefusal, checked}
 use Rattle.rules.specs.declared.Refusal.{Refusal}
 use Rattle.rules.specs.declared.Checked.{Checked}
 use Rattle.rules.proofs.Table.{node-nodes}
-use Rattle.rules.proofs.Refusals.{verdict-accepted, verdict-refused, refusalFrom, from-start, from-refused, from-next, from-end}
+use Rattle.rules.proofs.Refusals.{verdict-accepted, verdict-refused, first-alone, refusalFrom, from-start, from-refused, from-next, from-end}
 use Rattle.rules.proofs.Accepted.{row-accepted, structure-falls}
 use Rattle.tree.specs.Chains.{lastBefore, isOwned, Latest, ParentBefore, hasDouble}
 use Rattle.checker.specs.Pass.{refusalAt, rowsRefusal, Seen}
@@ -26,11 +26,17 @@ module _ (table pool : List ℕ) (r : ℕ) (h : r < rowCount table) where
     pub parent-before : ParentBefore table r
     parent-before = rw (node-nodes table pool r h) at (structure-falls (nodes table pool) r s)
 
-    pub refused-fields : badFields (length pool) (nodeAt table pool r) ≡ true → Checked.Refused (Refusal.Fields (record { 0 = r })) ≡ verdict (refusalAt table pool r)
-    unfolding rowRefusal faults
-    refused-fields f = rw (s, node-nodes table pool r h, f)
+    module _ {drawn : Checked} (d : drawn ≡ verdict (fieldsRefusal (length pool) r (nodeAt table pool r))) where
+      pub refused-fields : (x : Refusal) → drawn ≡ Checked.Refused x → drawn ≡ verdict (refusalAt table pool r)
+      unfolding rowRefusal faults
+      refused-fields x e =
+          let f = verdict-refused (fieldsRefusal (length pool) r (nodeAt table pool r)) x (sym d ∙ e) in
+          rw (s, node-nodes table pool r h, f) e
 
-    module _ (f : badFields (length pool) (nodeAt table pool r) ≡ false) where
+      pub passed-fields : drawn ≡ Checked.Accepted → fieldsRefusal (length pool) r (nodeAt table pool r) ≡ none
+      passed-fields e = verdict-accepted (fieldsRefusal (length pool) r (nodeAt table pool r)) (sym d ∙ e)
+
+    module _ (f : fieldsRefusal (length pool) r (nodeAt table pool r) ≡ none) where
       pub refused-names : badNames (nodeAt table pool r) ≡ true → Checked.Refused (Refusal.Names (record { 0 = r })) ≡ verdict (refusalAt table pool r)
       unfolding rowRefusal faults
       refused-names n = rw (s, node-nodes table pool r h, f, n)
@@ -100,10 +106,6 @@ module _ (table pool : List ℕ) where
             record { bound = omega arith; seen = s; rest = sym (from-next (refusalAt table pool) (rowCount table) r h passed) ∙ g .rest }
 
 -- The whole check.
-one-left : (o : Option Refusal) → o ≡ firstRefusal (o ∷ [])
-one-left none = refl
-one-left (some x) = refl
-
 module _ (table pool : List ℕ) where
   pub check-size : badSize table pool ≡ true → Checked.Refused Refusal.Size ≡ checked table pool
   unfolding checked checkRefusal
@@ -111,4 +113,4 @@ module _ (table pool : List ℕ) where
 
   pub check-all : badSize table pool ≡ false → verdict (rowsRefusal table pool) ≡ checked table pool
   unfolding checked checkRefusal
-  check-all e = rw e (ap verdict (one-left (rowsRefusal table pool)))
+  check-all e = rw e (ap verdict (first-alone (rowsRefusal table pool)))

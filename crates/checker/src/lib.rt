@@ -1,4 +1,4 @@
-// The check of a node table: refusals 1 to 7.
+// The check of a node table: refusals 1 to 7, 12 and 13.
 ghost use mathlib.Core.Path.{_≡_};
 ghost use Prim.Native.Nat.{_≤_, _<_};
 ghost use Rattle.rules.specs.Table.{MOST-ROWS, rowCount};
@@ -33,7 +33,7 @@ fn bad_size(table: &[u32], pool: &[u8]) -> bool
         | (pool.len() > rules::MOST_BYTES)
 }
 
-// Refusals 2 to 7, rows ascending. The arrays of links grow with the pass.
+// Refusals 2 to 7, 12 and 13, rows ascending. The arrays of links grow with the pass.
 fn check_rows(table: &[u32], pool: &[u8]) -> Checked
     requires { ⌜ rowCount (now table) ≤ MOST-ROWS ⌝ }
     ensures { λ r. ⌜ r ≡ verdict (rowsRefusal (now (table .entry)) (now (pool .entry))) ⌝ }
@@ -54,7 +54,7 @@ fn check_rows(table: &[u32], pool: &[u8]) -> Checked
     Checked::Accepted
 }
 
-// The refusal that one row draws, tried for 2 to 7 in that order.
+// The refusal that one row draws, tried for 2 to 7 in that order; 12 and 13 are tried with 3.
 fn check_row(
     table: &[u32],
     pool: &[u8],
@@ -70,9 +70,10 @@ fn check_row(
     if structure::bad(table, children, row) {
         return Checked::Refused(Refusal::Structure(row));
     }
-    if field::bad(table, pool, row) {
-        return Checked::Refused(Refusal::Fields(row));
-    }
+    let fields = field::check(table, pool, row);
+    let Checked::Accepted = fields else {
+        return fields;
+    };
     if name::bad(table, pool, row) {
         return Checked::Refused(Refusal::Names(row));
     }

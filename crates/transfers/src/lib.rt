@@ -12,7 +12,7 @@ use rules::Read;
 use rules::Refusal;
 use rules::Written;
 
-// Copies a table and its pool to the outputs, if the check accepts them and there is room: refusals 1 to 7, 10 and 11.
+// Copies a table and its pool to the outputs, if the check accepts them and there is room: its refusals, 10 and 11.
 pub fn read(table: &[u32], pool: &[u8], out_table: &mut [u32], out_pool: &mut [u8]) -> Read
     ensures { λ r. ⌜ r ≡ tableRead (now (table .entry)) (now (pool .entry)) (length (now («out_table» .entry))) (length (now («out_pool» .entry))) .answer ⌝ }
     ensures { λ _. ⌜ now («out_table» .exit) ≡ tableRead (now (table .entry)) (now (pool .entry)) (length (now («out_table» .entry))) (length (now («out_pool» .entry))) .table ⌝ }
@@ -45,7 +45,7 @@ pub fn refuse_read(out_table: &mut [u32], out_pool: &mut [u8], why: Refusal) -> 
     Read::Refused(why)
 }
 
-// Writes a table and its pool as a bundle, if the check accepts them: refusals 1 to 7 and 33.
+// Writes a table and its pool as a bundle, if the check accepts them: its refusals and 33.
 pub fn write(table: &[u32], pool: &[u8], out: &mut [u8]) -> Written
     ensures { λ r. ⌜ r ≡ tableWritten (now (table .entry)) (now (pool .entry)) (length (now (out .entry))) .answer ⌝ }
     ensures { λ _. ⌜ now (out .exit) ≡ tableWritten (now (table .entry)) (now (pool .entry)) (length (now (out .entry))) .bytes ⌝ }
@@ -56,7 +56,7 @@ pub fn write(table: &[u32], pool: &[u8], out: &mut [u8]) -> Written
     }
 }
 
-// Normalizes the first rows of a table and the first bytes of a working pool into a bundle: refusals 1 to 7, 9, 10 and 11 by the
+// Normalizes the first rows of a table and the first bytes of a working pool into a bundle: the check's refusals, 9, 10 and 11 by the
 // limits of a table, and 33. It works in both buffers, and what is left there is not told.
 pub fn normalize(
     words: &mut [u32],
