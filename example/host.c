@@ -20,11 +20,19 @@ struct bundle {
     size_t length;
 };
 
+static void print_refusal(noemathu_refusal refusal)
+{
+    printf("refusal %u, row %u", refusal.number, refusal.row);
+    if (refusal.word)
+        printf(", field: %s", noemathu_field(refusal.word));
+    printf(": %s\n", noemathu_text(refusal.number));
+}
+
 static void stop_if(noemathu_refusal refusal)
 {
     if (refusal.number == NOEMATHU_NOT_REFUSED)
         return;
-    printf("refusal %u, row %u: %s\n", refusal.number, refusal.row, noemathu_text(refusal.number));
+    print_refusal(refusal);
     exit(1);
 }
 
@@ -36,7 +44,7 @@ static noemathu_place put(struct nodes *nodes, const char *text)
 static uint32_t add_row(struct nodes *nodes, noemathu_row row)
 {
     if (nodes->rows == NOEMATHU_MOST_ROWS)
-        stop_if((noemathu_refusal){NOEMATHU_REFUSED_SIZE, 0});
+        stop_if((noemathu_refusal){NOEMATHU_REFUSED_SIZE, 0, 0});
     noemathu_put_row(nodes->table, nodes->rows, row);
     return (uint32_t)nodes->rows++;
 }
@@ -195,5 +203,11 @@ int main(void)
     stop_if(used.refusal);
     normalized.length = used.bytes;
     show("after", &normalized, second, "p");
+
+    /* A maker who counts one byte too many: the length of a URI that ends with the pool. */
+    add(&nodes, NOEMATHU_ELEMENT, root, "", "note", "urn:notes", "");
+    nodes.table[NOEMATHU_ROW_WORDS * (nodes.rows - 1) + 7]++;
+    used = noemathu_write(nodes.table, NOEMATHU_ROW_WORDS * nodes.rows, nodes.pool, nodes.held, session.bytes, sizeof session.bytes);
+    print_refusal(used.refusal);
     return 0;
 }

@@ -117,11 +117,14 @@
    Every function takes any bytes whatever, judges the whole bundle or table
    first, and always returns; a lookup costs little more than that judgement.
    Each answer begins with a refusal: its number, 0 if the call was not refused,
-   and the row that is at fault, 0 where no row is. The rest of a refused answer
-   is 0: nothing found, no, nothing used.
+   the row that is at fault, 0 where no row is, and for 3, 12 and 13 the word, 2,
+   4, 6 or 8, at which the field at fault begins, 0 for all others; see
+   noemathu_field. The rest of a refused answer is 0: nothing found, no, nothing
+   used.
 
    The first fault is named. The numbers are tried in this order: 30, 31, 32; 1;
-   then row after row, each for 2 to 7; then 8, 9, 10, 11; then 33.
+   then row after row, each for 2; its fields in order, each for 3 and 12; its
+   fields again for 13; 4 to 7; then 8, 9, 10, 11; then 33.
 
    What was found is told by its place, an offset and a length in the pool of the
    bundle that was asked: see noemathu_bytes. */
@@ -196,9 +199,9 @@ extern "C" {
    before their children; graft under an element or a fragment. */
 #define NOEMATHU_REFUSED_STRUCTURE 2
 
-/* A field of the row runs past the pool, a length of 0 has an offset, or a field
-   is used that this type does not have. Mend the row's offsets and lengths. */
-#define NOEMATHU_REFUSED_FIELDS 3
+/* The field runs past the pool. Mend its offset or length, or hand in the whole
+   pool. */
+#define NOEMATHU_REFUSED_PAST_POOL 3
 
 /* The element or attribute has no local name, or a prefix or local name holds a
    byte that no name may hold. Mend the name; a whole name with a colon belongs
@@ -233,6 +236,15 @@ extern "C" {
    larger pool; split the tree. */
 #define NOEMATHU_REFUSED_POOL_ROOM 11
 
+/* The field has length 0 and an offset that is not 0. Write 0 for the offset, or
+   give the field its length. */
+#define NOEMATHU_REFUSED_OFFSET 12
+
+/* The field is used and rows of this type do not have it: a value in an element,
+   a prefix or URI in a declaration or a Level 1 row, a name in a text. Write 0
+   for offset and length, or mend the type. */
+#define NOEMATHU_REFUSED_MUST_BE_EMPTY 13
+
 /* The bytes do not begin with `NTB`. This is no bundle. */
 #define NOEMATHU_REFUSED_MARK 30
 
@@ -254,7 +266,7 @@ static inline const char *noemathu_text(uint32_t number)
     case NOEMATHU_NOT_REFUSED: return "not refused";
     case NOEMATHU_REFUSED_SIZE: return "not whole rows, or more than 1,024 rows or 32,768 pool bytes";
     case NOEMATHU_REFUSED_STRUCTURE: return "unknown type, or a parent that cannot be this row's";
-    case NOEMATHU_REFUSED_FIELDS: return "a field that runs past the pool or must be empty";
+    case NOEMATHU_REFUSED_PAST_POOL: return "a field that runs past the pool";
     case NOEMATHU_REFUSED_NAMES: return "a name that is missing or holds a bad byte";
     case NOEMATHU_REFUSED_NAMESPACE: return "a prefix without a URI, or xml or xmlns misused";
     case NOEMATHU_REFUSED_DECLARATION: return "a declaration that the namespace rules forbid";
@@ -263,6 +275,8 @@ static inline const char *noemathu_text(uint32_t number)
     case NOEMATHU_REFUSED_LEVEL1: return "a DOM Level 1 node cannot be normalized";
     case NOEMATHU_REFUSED_ROW_ROOM: return "too many rows for the result";
     case NOEMATHU_REFUSED_POOL_ROOM: return "too many pool bytes for the result";
+    case NOEMATHU_REFUSED_OFFSET: return "a field with an offset and no length";
+    case NOEMATHU_REFUSED_MUST_BE_EMPTY: return "a field that must be empty";
     case NOEMATHU_REFUSED_MARK: return "no bundle: it does not begin with NTB";
     case NOEMATHU_REFUSED_VERSION: return "a bundle of another version";
     case NOEMATHU_REFUSED_LENGTHS: return "a bundle that was cut, lengthened or damaged";
@@ -271,13 +285,27 @@ static inline const char *noemathu_text(uint32_t number)
     }
 }
 
+/* Which field a refusal's word means; "none" for word 0. */
+static inline const char *noemathu_field(uint32_t word)
+{
+    switch (word) {
+    case 2: return "prefix";
+    case 4: return "local name";
+    case 6: return "namespace URI";
+    case 8: return "value";
+    default: return "none";
+    }
+}
+
 
 /* The answers. */
 
-/* The number of the refusal and the row at fault; 0 and 0 if not refused. */
+/* The number of the refusal, the row at fault, and the word at which the field
+   at fault begins; all 0 if not refused. */
 typedef struct noemathu_refusal {
     uint32_t number;
     uint32_t row;
+    uint32_t word;
 } noemathu_refusal;
 
 /* A part of the pool; length 0, with offset 0, is none. */
@@ -321,7 +349,7 @@ typedef struct noemathu_used {
 
 /* The functions. */
 
-/* Judges a bundle. Refusals: 30 to 32, 1 to 7. A bundle that is accepted here is
+/* Judges a bundle. Refusals: 30 to 32, 1 to 7, 12, 13. A bundle that is accepted here is
    accepted by all others too, apart from 8 to 11 and 33. */
 noemathu_refusal noemathu_check(const uint8_t *bundle, size_t length);
 
@@ -333,30 +361,30 @@ noemathu_refusal noemathu_check(const uint8_t *bundle, size_t length);
 /* The URI that a prefix means at a row, by the names and declarations of the
    elements there and outward; the empty prefix is the default namespace. Found:
    a place or nothing; the lookup of DOM Level 3, for which `xml` and `xmlns` are
-   like any prefix. Refusals: 30 to 32, 1 to 7, 8. */
+   like any prefix. Refusals: 30 to 32, 1 to 8, 12, 13. */
 noemathu_found noemathu_uri_of_prefix(const uint8_t *bundle, size_t length, uint32_t row,
                                       const uint8_t *prefix, size_t prefix_length);
 
 /* A prefix that means a URI at a row; never the empty one. Found: a place or
-   nothing. Refusals: 30 to 32, 1 to 7, 8. */
+   nothing. Refusals: 30 to 32, 1 to 8, 12, 13. */
 noemathu_found noemathu_prefix_of_uri(const uint8_t *bundle, size_t length, uint32_t row,
                                       const uint8_t *uri, size_t uri_length);
 
 /* Whether a URI is the default namespace at a row. The empty URI is, where an
    element without prefix and URI or an empty default declaration is met first;
-   where nothing decides, no URI is. Refusals: 30 to 32, 1 to 7, 8. */
+   where nothing decides, no URI is. Refusals: 30 to 32, 1 to 8, 12, 13. */
 noemathu_tested noemathu_is_default(const uint8_t *bundle, size_t length, uint32_t row,
                                     const uint8_t *uri, size_t uri_length);
 
 /* The in-scope URI of a prefix at a row: by declarations alone, as a reader of
    the written XML sees it. Found: a place, nothing, or for `xml` and `xmlns` a
    built-in, whose URIs are NOEMATHU_XML_URI and NOEMATHU_XMLNS_URI. Refusals: 30
-   to 32, 1 to 7, 8. */
+   to 32, 1 to 8, 12, 13. */
 noemathu_found noemathu_in_scope_uri(const uint8_t *bundle, size_t length, uint32_t row,
                                      const uint8_t *prefix, size_t prefix_length);
 
 /* An in-scope prefix of a URI at a row, by declarations alone; never the empty
-   one. Found: a place, nothing, or a built-in. Refusals: 30 to 32, 1 to 7, 8. */
+   one. Found: a place, nothing, or a built-in. Refusals: 30 to 32, 1 to 8, 12, 13. */
 noemathu_found noemathu_in_scope_prefix(const uint8_t *bundle, size_t length, uint32_t row,
                                         const uint8_t *uri, size_t uri_length);
 
@@ -364,19 +392,19 @@ noemathu_found noemathu_in_scope_prefix(const uint8_t *bundle, size_t length, ui
    changed is the values of declarations and the prefixes of attributes, and new
    declarations stand behind the rows, new prefixes (`xml`, `NS1`) behind the
    pool. Afterwards the in-scope URI of every element's and every owned
-   attribute's prefix is its URI. Refusals: 30 to 32, 1 to 7, 9; 10 and 11 where
-   the result is beyond the limits of a table; 33. */
+   attribute's prefix is its URI. Refusals: 30 to 32, 1 to 7, 12, 13, 9; 10 and 11
+   where the result is beyond the limits of a table; 33. */
 noemathu_used noemathu_normalize(const uint8_t *bundle, size_t length,
                                  uint8_t *out, size_t out_size);
 
-/* Reads a bundle into a table and a pool. Refusals: 30 to 32, 1 to 7; 10 where
+/* Reads a bundle into a table and a pool. Refusals: 30 to 32, 1 to 7, 12, 13; 10 where
    the table has too few whole rows, 11 where the pool is too short. */
 noemathu_sizes noemathu_read(const uint8_t *bundle, size_t length,
                              uint32_t *table, size_t table_words, uint8_t *pool, size_t pool_size);
 
 /* Writes a table and its pool as a bundle. What noemathu_read reads and
    noemathu_write writes is the same, byte for byte and word for word. Refusals:
-   1 to 7, 33. */
+   1 to 7, 12, 13, 33. */
 noemathu_used noemathu_write(const uint32_t *table, size_t table_words,
                              const uint8_t *pool, size_t pool_size, uint8_t *out, size_t out_size);
 

@@ -140,7 +140,12 @@ enum { SAMPLES = sizeof samples / sizeof *samples };
 
 static bool is_refusal(noemathu_refusal refusal, uint32_t number, uint32_t row)
 {
-    return refusal.number == number && refusal.row == row;
+    return refusal.number == number && refusal.row == row && refusal.word == 0;
+}
+
+static bool is_field_refusal(noemathu_refusal refusal, uint32_t number, uint32_t row, uint32_t word)
+{
+    return refusal.number == number && refusal.row == row && refusal.word == word;
 }
 
 static bool is_nothing(noemathu_found found, uint32_t number, uint32_t row)
@@ -396,7 +401,59 @@ static void refused_tables(void)
         EXPECT(is_zero(out + used.bytes, sizeof out - used.bytes));
     }
     for (size_t bytes = 0; bytes <= 2; bytes++)
-        EXPECT(is_refusal(noemathu_write(row, 10, (const uint8_t *)"aU", bytes, out, sizeof out).refusal, bytes < 2 ? 3 : 0, 0));
+        EXPECT(is_field_refusal(noemathu_write(row, 10, (const uint8_t *)"aU", bytes, out, sizeof out).refusal, bytes < 2 ? 3 : 0,
+                                0, bytes == 0 ? 4 : bytes == 1 ? 6 : 0));
+}
+
+/* ---- which field: a table of an element and one more row, of which some words are set */
+
+static void expect_field(uint32_t type, const uint32_t *set, size_t pairs, uint32_t number, uint32_t word)
+{
+    static uint8_t bundle[NOEMATHU_BUNDLE_BYTES(2, 2)], out[200];
+    uint32_t table[20] = {1, NOEMATHU_NONE, 0, 0, 0, 1, 1, 1, 0, 0, type, 0, 0, 0, 0, type == 3 ? 0 : 1, 0, 0, 0, 0};
+    noemathu_used used;
+    for (size_t i = 0; i < pairs; i++)
+        table[10 + set[2 * i]] = set[2 * i + 1];
+    EXPECT(is_field_refusal(noemathu_write(table, 20, (const uint8_t *)"aU", 2, out, sizeof out).refusal, number, 1, word));
+    memcpy(bundle, "NTB\1\0\0\2\0\2\0\0", 12);
+    for (size_t i = 0; i < 80; i++)
+        bundle[12 + i] = (uint8_t)(table[i / 4] >> 8 * (i % 4));
+    memcpy(bundle + 92, "aU", 2);
+    EXPECT(is_field_refusal(noemathu_check(bundle, sizeof bundle), number, 1, word));
+    EXPECT(is_field_refusal(noemathu_uri_of_prefix(bundle, sizeof bundle, 0, NULL, 0).refusal, number, 1, word));
+    EXPECT(is_field_refusal(noemathu_is_default(bundle, sizeof bundle, 0, NULL, 0).refusal, number, 1, word));
+    EXPECT(is_field_refusal(noemathu_in_scope_uri(bundle, sizeof bundle, 0, NULL, 0).refusal, number, 1, word));
+    used = noemathu_normalize(bundle, sizeof bundle, out, sizeof out);
+    EXPECT(is_field_refusal(used.refusal, number, 1, word) && is_zero(out, sizeof out));
+    EXPECT(is_field_refusal(noemathu_read(bundle, sizeof bundle, NULL, 0, NULL, 0).refusal, number, 1, word));
+}
+
+static void fields(void)
+{
+    static const uint32_t words[] = {2, 4, 6, 8};
+    for (size_t i = 0; i < 4; i++) {
+        uint32_t w = words[i];
+        expect_field(NOEMATHU_ATTRIBUTE, (const uint32_t[]){w, 1, w + 1, 2}, 2, 3, w);
+        expect_field(NOEMATHU_ATTRIBUTE, (const uint32_t[]){w, NOEMATHU_NONE, w + 1, NOEMATHU_NONE}, 2, 3, w);
+        expect_field(NOEMATHU_ATTRIBUTE, (const uint32_t[]){w, 3, w + 1, 0}, 2, 3, w); /* past the pool, and no length */
+        expect_field(NOEMATHU_ATTRIBUTE, (const uint32_t[]){w, 1, w + 1, 0}, 2, 12, w);
+        for (size_t k = i + 1; k < 4; k++) {
+            uint32_t later = words[k];
+            /* two faulty fields, in both orders */
+            expect_field(NOEMATHU_ATTRIBUTE, (const uint32_t[]){w, 1, w + 1, 2, later, 1, later + 1, 0}, 4, 3, w);
+            expect_field(NOEMATHU_ATTRIBUTE, (const uint32_t[]){w, 1, w + 1, 0, later, 1, later + 1, 2}, 4, 12, w);
+        }
+    }
+    /* an element has no value, a declaration no prefix and no URI, a text neither of the three names */
+    expect_field(NOEMATHU_ELEMENT, (const uint32_t[]){8, 0, 9, 1}, 2, 13, 8);
+    expect_field(NOEMATHU_DECLARATION, (const uint32_t[]){2, 0, 3, 1}, 2, 13, 2);
+    expect_field(NOEMATHU_DECLARATION, (const uint32_t[]){6, 0, 7, 1}, 2, 13, 6);
+    expect_field(NOEMATHU_TEXT, (const uint32_t[]){4, 0, 5, 1}, 2, 13, 4);
+    /* 3 and 12 of a later field come before 13 of an earlier one; of two 13s the earlier */
+    expect_field(NOEMATHU_TEXT, (const uint32_t[]){2, 0, 3, 1, 8, 1, 9, 2}, 4, 3, 8);
+    expect_field(NOEMATHU_TEXT, (const uint32_t[]){2, 0, 3, 1, 8, 1, 9, 0}, 4, 12, 8);
+    expect_field(NOEMATHU_TEXT, (const uint32_t[]){4, 0, 5, 1, 6, 0, 7, 1}, 4, 13, 4);
+    EXPECT(strcmp(noemathu_field(6), "namespace URI") == 0 && strcmp(noemathu_field(0), noemathu_field(5)) == 0);
 }
 
 /* ---- the largest */
@@ -494,7 +551,7 @@ static void beyond_the_limits(void)
 
 static void helpers(void)
 {
-    const uint32_t numbers[] = {0, 1, 2, 3, 4, 5, 6, 7, 8, 9, 10, 11, 30, 31, 32, 33, 12};
+    const uint32_t numbers[] = {0, 1, 2, 3, 4, 5, 6, 7, 8, 9, 10, 11, 12, 13, 30, 31, 32, 33, 14};
     for (size_t i = 0; i < sizeof numbers / sizeof *numbers; i++)
         for (size_t k = 0; k < i; k++)
             EXPECT(strcmp(noemathu_text(numbers[i]), noemathu_text(numbers[k])) != 0);
@@ -611,6 +668,7 @@ int main(void)
     every_question();
     overlapping_inputs();
     refused_tables();
+    fields();
     largest();
     beyond_the_limits();
     helpers();

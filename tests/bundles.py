@@ -3,15 +3,15 @@ the C interface answers and leaves in its outputs. It is written from the rules,
 
 A bundle, a pool and a query are strings of bytes, a table is a sequence of words, a row a number.
 
-    check(bundle) -> (number, row)
-    uri_of_prefix(bundle, row, query) -> (number, row, found, offset, length)
-    prefix_of_uri(bundle, row, query) -> (number, row, found, offset, length)
-    is_default(bundle, row, query) -> (number, row, yes)
-    in_scope_uri(bundle, row, query) -> (number, row, found, offset, length)
-    in_scope_prefix(bundle, row, query) -> (number, row, found, offset, length)
-    normalize(bundle, out_size) -> (number, row, bytes, out)
-    read(bundle, out_words, out_bytes) -> (number, row, rows, bytes, out_table, out_pool)
-    write(table, pool, out_size) -> (number, row, bytes, out)
+    check(bundle) -> (number, row, word)
+    uri_of_prefix(bundle, row, query) -> (number, row, word, found, offset, length)
+    prefix_of_uri(bundle, row, query) -> (number, row, word, found, offset, length)
+    is_default(bundle, row, query) -> (number, row, word, yes)
+    in_scope_uri(bundle, row, query) -> (number, row, word, found, offset, length)
+    in_scope_prefix(bundle, row, query) -> (number, row, word, found, offset, length)
+    normalize(bundle, out_size) -> (number, row, word, bytes, out)
+    read(bundle, out_words, out_bytes) -> (number, row, word, rows, bytes, out_table, out_pool)
+    write(table, pool, out_size) -> (number, row, word, bytes, out)
 """
 import struct
 from functools import lru_cache
@@ -28,10 +28,10 @@ FOUND = {"none": 0, "place": 1, "xml": 2, "xmlns": 3}
 
 
 class Refused(Exception):
-    """A refusal, with its number and row."""
+    """A refusal, with its number, row and word."""
 
-    def __init__(self, number, row=0):
-        self.refusal = number, row
+    def __init__(self, number, row=0, word=0):
+        self.refusal = reading.Refusal(number, row, word)
 
 
 class Bytes:
@@ -106,10 +106,10 @@ def check(bundle):
 def found(bundle, lookup, row, query):
     """What a lookup that knows no built-ins finds."""
     try:
-        number, at_row, offset, length = lookup(*split(bundle), row, query)
+        *refusal, offset, length = lookup(*split(bundle), row, query)
     except Refused as refused:
         return (*refused.refusal, FOUND["none"], 0, 0)
-    return number, at_row, FOUND["place" if length else "none"], offset, length
+    return (*refusal, FOUND["place" if length else "none"], offset, length)
 
 
 def uri_of_prefix(bundle, row, query):
@@ -130,10 +130,10 @@ def is_default(bundle, row, query):
 def found_in_scope(bundle, lookup, row, query):
     """What a lookup finds that answers a place, a built-in or none; the place is 0, 0 for the last two."""
     try:
-        number, at_row, kind, offset, length = lookup(*split(bundle), row, query)
+        *refusal, kind, offset, length = lookup(*split(bundle), row, query)
     except Refused as refused:
         return (*refused.refusal, FOUND["none"], 0, 0)
-    return number, at_row, FOUND[kind], offset, length
+    return (*refusal, FOUND[kind], offset, length)
 
 
 def in_scope_uri(bundle, row, query):
@@ -147,24 +147,24 @@ def in_scope_prefix(bundle, row, query):
 # Outputs. Success answers how much of each output is used, tables in rows, a refusal 0. Refused outputs and room left over
 # are all zero.
 
-def refuse_if(number, row):
-    if number != 0:
-        raise Refused(number, row)
+def refuse_if(refusal):
+    if refusal.number != 0:
+        raise Refused(*refusal)
 
 
 def written(bundle, out_size):
     """33, last of all, says that the output bytes are too few."""
     if len(bundle) > out_size:
         raise Refused(33)
-    return 0, 0, len(bundle), bundle + bytes(out_size - len(bundle))
+    return (*reading.NOT_REFUSED, len(bundle), bundle + bytes(out_size - len(bundle)))
 
 
 def normalize(bundle, out_size):
     """For a written bundle 10 and 11 speak only of 1,024 and 32,768."""
     try:
         refusal, tree = reading.normalized(*split(bundle))
-        refuse_if(*refusal)
-        refuse_if(*reading.too_much(tree, reading.WIDTH * reading.MOST_ROWS, reading.MOST_BYTES))
+        refuse_if(refusal)
+        refuse_if(reading.too_much(tree, reading.WIDTH * reading.MOST_ROWS, reading.MOST_BYTES))
         return written(join(reading.words_of(tree), tree.pool), out_size)
     except Refused as refused:
         return (*refused.refusal, 0, bytes(out_size))
@@ -172,7 +172,7 @@ def normalize(bundle, out_size):
 
 def write(table, pool, out_size):
     try:
-        refuse_if(*reading.check(table, pool))
+        refuse_if(reading.check(table, pool))
         return written(join(table, pool), out_size)
     except Refused as refused:
         return (*refused.refusal, 0, bytes(out_size))
@@ -189,9 +189,9 @@ def too_short(table, pool, out_words, out_bytes):
 def read(bundle, out_words, out_bytes):
     try:
         table, pool = split(bundle)
-        refuse_if(*reading.check(table, pool))
+        refuse_if(reading.check(table, pool))
         too_short(table, pool, out_words, out_bytes)
     except Refused as refused:
         return (*refused.refusal, 0, 0, (0,) * out_words, bytes(out_bytes))
-    return (0, 0, len(table) // reading.WIDTH, len(pool), table + (0,) * (out_words - len(table)),
+    return (*reading.NOT_REFUSED, len(table) // reading.WIDTH, len(pool), table + (0,) * (out_words - len(table)),
             pool + bytes(out_bytes - len(pool)))

@@ -63,13 +63,71 @@ def names_by_offset():
         other.number < row.number and other.type == row.type and other.local_name == row.local_name
         and other.uri == row.uri for other in tree.under[row.parent]
         if row.parent != reading.NONE and row.type in (13, 2, 258))
-    reading.ROW_REFUSALS = reading.ROW_REFUSALS[:-1] + ((7, reading.wrong_double),)
 
 
 def fields_before_structure():
-    """A row is tried for 3 before 2."""
-    second, third, *rest = reading.ROW_REFUSALS
-    reading.ROW_REFUSALS = (third, second, *rest)
+    """A row's fields are tried before 2."""
+    right = reading.tries
+
+    def tries(tree, row):
+        yield from reading.field_tries(tree, row)
+        yield from right(tree, row)
+    reading.tries = tries
+
+
+def offset_before_pool():
+    """A field is tried for 12 before 3."""
+    right = reading.past_pool
+    reading.past_pool = lambda tree, field: right(tree, field) and not reading.offset_alone(field)
+
+
+def empty_in_first_pass():
+    """A field is tried for 13 before the next is tried for 3 and 12."""
+    def field_tries(tree, row):
+        for word, field in row.worded():
+            yield 3, word, reading.past_pool(tree, field)
+            yield 12, word, reading.offset_alone(field)
+            yield 13, word, reading.full_but_must_be_empty(row, word, field)
+    reading.field_tries = field_tries
+
+
+def pool_before_offsets():
+    """All fields are tried for 3 before one is tried for 12."""
+    def field_tries(tree, row):
+        for word, field in row.worded():
+            yield 3, word, reading.past_pool(tree, field)
+        for word, field in row.worded():
+            yield 12, word, reading.offset_alone(field)
+        for word, field in row.worded():
+            yield 13, word, reading.full_but_must_be_empty(row, word, field)
+    reading.field_tries = field_tries
+
+
+def fields_after_names():
+    """A row is tried for 13 after 4."""
+    right = reading.tries
+
+    def tries(tree, row):
+        tried = list(right(tree, row))
+        yield from (one for one in tried if one[0] in (2, 3, 12, 4))
+        yield from (one for one in tried if one[0] not in (2, 3, 12, 4))
+    reading.tries = tries
+
+
+def length_word():
+    """The word is that of the field's length."""
+    right = reading.tries
+
+    def tries(tree, row):
+        for number, word, drawn in right(tree, row):
+            yield number, word + 1 if word else 0, drawn
+    reading.tries = tries
+
+
+def last_field():
+    """The last of two faulty fields is named."""
+    right = reading.Row.worded
+    reading.Row.worded = lambda row: reversed(list(right(row)))
 
 
 def bytes_before_rows():
@@ -77,7 +135,9 @@ def bytes_before_rows():
     right = reading.too_much
 
     def too_much(tree, out_words, out_bytes):
-        return (11, 0) if len(tree.pool) > min(reading.MOST_BYTES, out_bytes) else right(tree, out_words, out_bytes)
+        if len(tree.pool) > min(reading.MOST_BYTES, out_bytes):
+            return reading.Refusal(11)
+        return right(tree, out_words, out_bytes)
     reading.too_much = too_much
 
 
@@ -145,10 +205,8 @@ def room_before_limits():
     right = bundles.normalize
 
     def normalize(bundle, out_size):
-        number, row, used, out = right(bundle, out_size)
-        if number in (10, 11) and out_size < len(bundle):
-            return 33, row, used, out
-        return number, row, used, out
+        number, *rest = right(bundle, out_size)
+        return (33 if number in (10, 11) and out_size < len(bundle) else number, *rest)
     bundles.normalize = normalize
 
 
@@ -167,12 +225,13 @@ def rest_kept():
     def written(bundle, out_size):
         if len(bundle) > out_size:
             raise bundles.Refused(33)
-        return 0, 0, len(bundle), bundle + b"\xa5" * (out_size - len(bundle))
+        return (*reading.NOT_REFUSED, len(bundle), bundle + b"\xa5" * (out_size - len(bundle)))
     bundles.written = written
 
 
 FAULTS = {fault.__name__: fault for fault in (
     shadowed_prefix, shadowed_own_prefix, element_by_uri_lookup, default_serves_attribute, bound_prefix_declared,
-    level1_name_counts, names_by_offset, fields_before_structure, bytes_before_rows, shared_bytes, big_endian,
+    level1_name_counts, names_by_offset, fields_before_structure, offset_before_pool, empty_in_first_pass,
+    pool_before_offsets, fields_after_names, length_word, last_field, bytes_before_rows, shared_bytes, big_endian,
     zero_byte_not_seen, bytes_after, version_before_mark, cut_is_lengths, limits_by_lengths, room_before_limits,
     read_bytes_before_rows, rest_kept)}

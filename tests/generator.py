@@ -217,13 +217,22 @@ def wild(random):
     return maker.table(), bytes(maker.pool)
 
 
+def damage_fields(random, table, pool, row):
+    """One field of the row or two: past the pool, with an offset and no length, or with a byte where it may have none."""
+    for word in random.sample((2, 4, 6, 8), random.choice((1, 2, 2))):
+        offset, length = random.choice(((len(pool), 1), (len(pool) + 1, 0), (len(pool), 0), (1, 0), (0, 1), (0, len(pool) + 1)))
+        table[row + word:row + word + 2] = offset, length
+    if random.random() < 0.3:
+        table[row] = random.choice((1, 2, 3, 13, 257, 258))
+
+
 def damaged(random):
     """A tree with one thing wrong, or two."""
     table, pool = random.choice((typical, grafted))(random)
     table, pool = list(table), bytearray(pool)
     for _ in range(random.choice((1, 1, 2))):
         rows = len(table) // 10
-        how = random.randint(0, 7)
+        how = random.randint(0, 8)
         if how == 0:
             del table[len(table) - random.randint(0, 9):]
         elif how == 1:
@@ -245,6 +254,8 @@ def damaged(random):
                 table += again
             elif how == 5:
                 table[row:row + 10], table[other:other + 10] = table[other:other + 10], table[row:row + 10]
+            elif how == 8:
+                damage_fields(random, table, pool, row)
             elif how == 6:
                 table[row] = random.choice((0, 1, 2, 3, 5, 9, 10, 11, 13, 14, 256, 257, 258, 259, NONE))
             else:

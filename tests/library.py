@@ -17,7 +17,10 @@ BYTES, SIZE, WORD = ctypes.c_void_p, ctypes.c_size_t, ctypes.c_uint32
 
 
 class Refusal(ctypes.Structure):
-    _fields_ = [("number", WORD), ("row", WORD)]
+    _fields_ = [("number", WORD), ("row", WORD), ("word", WORD)]
+
+    def given(self):
+        return self.number, self.row, self.word
 
 
 class Place(ctypes.Structure):
@@ -125,28 +128,28 @@ class Library:
 
     def check(self, operation):
         answer = self.functions[operation](*self.lent["bundle"])
-        return answer.number, answer.row
+        return answer.given()
 
     def lookup(self, operation, row, query):
         answer = self.functions[operation](*self.lent["bundle"], row, query if query else None, len(query))
-        return (answer.refusal.number, answer.refusal.row, answer.found, answer.place.offset, answer.place.length)
+        return (*answer.refusal.given(), answer.found, answer.place.offset, answer.place.length)
 
     def is_default(self, operation, row, query):
         answer = self.functions[operation](*self.lent["bundle"], row, query if query else None, len(query))
-        return answer.refusal.number, answer.refusal.row, answer.yes
+        return (*answer.refusal.given(), answer.yes)
 
     def normalize(self, operation, size):
         answer = self.functions[operation](*self.lent["bundle"], *self.rooms["out"].lend(size, self.shift))
-        return answer.refusal.number, answer.refusal.row, answer.bytes, self.rooms["out"].taken_back("the output")
+        return (*answer.refusal.given(), answer.bytes, self.rooms["out"].taken_back("the output"))
 
     def write(self, operation, size):
         answer = self.functions[operation](*self.lent["table"], *self.lent["pool"],
                                            *self.rooms["out"].lend(size, self.shift))
-        return answer.refusal.number, answer.refusal.row, answer.bytes, self.rooms["out"].taken_back("the output")
+        return (*answer.refusal.given(), answer.bytes, self.rooms["out"].taken_back("the output"))
 
     def read(self, operation, count, size):
         table = self.rooms["out_table"].lend(4 * count, 4 * self.shift)[0], count
         answer = self.functions[operation](*self.lent["bundle"], *table, *self.rooms["out_pool"].lend(size, self.shift))
-        return (answer.refusal.number, answer.refusal.row, answer.rows, answer.bytes,
+        return (*answer.refusal.given(), answer.rows, answer.bytes,
                 tuple(memoryview(self.rooms["out_table"].taken_back("the output table")).cast("I")),
                 self.rooms["out_pool"].taken_back("the output pool"))

@@ -3,13 +3,13 @@ them, in its order and words, written without a look at the library. tests/compa
 
 A table is a sequence of words, a pool a string of bytes, a row a number, a query a string of bytes.
 
-    check(table, pool) -> (number, row)
-    uri_of_prefix(table, pool, row, query) -> (number, row, offset, length)
-    prefix_of_uri(table, pool, row, query) -> (number, row, offset, length)
-    is_default(table, pool, row, query) -> (number, row, yes)
-    in_scope_uri(table, pool, row, query) -> (number, row, kind, offset, length)
-    in_scope_prefix(table, pool, row, query) -> (number, row, kind, offset, length)
-    normalize(table, pool, out_words, out_bytes) -> (number, row, rows, bytes, out_table, out_pool)
+    check(table, pool) -> (number, row, word)
+    uri_of_prefix(table, pool, row, query) -> (number, row, word, offset, length)
+    prefix_of_uri(table, pool, row, query) -> (number, row, word, offset, length)
+    is_default(table, pool, row, query) -> (number, row, word, yes)
+    in_scope_uri(table, pool, row, query) -> (number, row, word, kind, offset, length)
+    in_scope_prefix(table, pool, row, query) -> (number, row, word, kind, offset, length)
+    normalize(table, pool, out_words, out_bytes) -> (number, row, word, rows, bytes, out_table, out_pool)
 
 Number 0 is no refusal. A kind is "none", "place", "xml" or "xmlns", of which the last two are built in.
 """
@@ -88,6 +88,10 @@ class Row:
     def fields(self):
         return self.prefix, self.local_name, self.uri, self.value
 
+    def worded(self):
+        """The fields in word order, each with the word of its offset."""
+        return zip((2, 4, 6, 8), self.fields())
+
     def words(self):
         words = [self.type, self.parent]
         for field in self.fields():
@@ -123,6 +127,16 @@ class Tree:
 
 # Refusal numbers.
 
+class Refusal(NamedTuple):
+    """The row at fault, or 0; the word that holds the offset of the field at fault, or 0 where it is no field."""
+    number: int
+    row: int = 0
+    word: int = 0
+
+
+NOT_REFUSED = Refusal(0)
+
+
 def wrong_size(table, pool):
     """1: word count not a multiple of 10 or above 10,240, or pool above 32,768."""
     return len(table) % WIDTH != 0 or len(table) > WIDTH * MOST_ROWS or len(pool) > MOST_BYTES
@@ -142,28 +156,41 @@ def wrong_structure(tree, row):
         other.type in ELEMENTS and other.number < row.number for other in tree.under[parent.number])
 
 
-def wrong_fields(tree, row):
-    """3: a field runs past the pool (offset plus length above its length); length 0 with offset not 0; a field not empty
-    that must be."""
-    for field in row.fields():
-        if field.offset + field.length > len(tree.pool):
-            return True
-        if field.length == 0 and field.offset != 0:
-            return True
-    return any(field.length != 0 for field in must_be_empty(row))
+def past_pool(tree, field):
+    """3: offset and length add up to more than the pool has."""
+    return field.offset + field.length > len(tree.pool)
 
 
-def must_be_empty(row):
+def offset_alone(field):
+    """12: an offset, and no length to go with it."""
+    return field.length == 0 and field.offset != 0
+
+
+def full_but_must_be_empty(row, word, field):
+    """13: rows of this type do not have the field."""
+    return field.length != 0 and word in must_be_empty(row.type)
+
+
+def must_be_empty(type):
     """The value of elements; prefix and URI of 13, 257, 258; prefix, local name and URI of all types but 1, 2, 13, 257,
-    258."""
-    fields = []
-    if row.type in ELEMENTS:
-        fields += [row.value]
-    if row.type in (DECLARATION, LEVEL1_ELEMENT, LEVEL1_ATTRIBUTE):
-        fields += [row.prefix, row.uri]
-    if row.type not in (ELEMENT, ATTRIBUTE, DECLARATION, LEVEL1_ELEMENT, LEVEL1_ATTRIBUTE):
-        fields += [row.prefix, row.local_name, row.uri]
-    return fields
+    258. Each by the word of its offset."""
+    words = set()
+    if type in ELEMENTS:
+        words |= {8}
+    if type in (DECLARATION, LEVEL1_ELEMENT, LEVEL1_ATTRIBUTE):
+        words |= {2, 6}
+    if type not in (ELEMENT, ATTRIBUTE, DECLARATION, LEVEL1_ELEMENT, LEVEL1_ATTRIBUTE):
+        words |= {2, 4, 6}
+    return words
+
+
+def field_tries(tree, row):
+    """The fields one after the other for 3 and 12, and once more, if all pass, for 13."""
+    for word, field in row.worded():
+        yield 3, word, past_pool(tree, field)
+        yield 12, word, offset_alone(field)
+    for word, field in row.worded():
+        yield 13, word, full_but_must_be_empty(row, word, field)
 
 
 LETTERS = b"ABCDEFGHIJKLMNOPQRSTUVWXYZabcdefghijklmnopqrstuvwxyz"
@@ -227,13 +254,18 @@ def wrong_double(tree, row):
                for other in tree.under[row.parent])
 
 
-ROW_REFUSALS = ((2, wrong_structure), (3, wrong_fields), (4, wrong_names), (5, wrong_namespace),
-                (6, wrong_declaration), (7, wrong_double))
+def tries(tree, row):
+    """What a row is tried for, in order: the number, the word that it gives, and whether it is drawn."""
+    yield 2, 0, wrong_structure(tree, row)
+    yield from field_tries(tree, row)
+    yield 4, 0, wrong_names(tree, row)
+    yield 5, 0, wrong_namespace(tree, row)
+    yield 6, 0, wrong_declaration(tree, row)
+    yield 7, 0, wrong_double(tree, row)
 
 
 def check(table, pool):
-    """Order: 1; then rows ascending, each tried for 2 to 7 in that order. Numbers 2 to 7 name their row; the others give
-    row 0."""
+    """Order: 1; then rows ascending, each tried for 2 to 7 in that order. All but 1 name their row."""
     return checked(tuple(table), bytes(pool))[0]
 
 
@@ -241,13 +273,13 @@ def check(table, pool):
 def checked(table, pool):
     """What the check answers, and the tree where it accepts. Every entry point runs the whole check itself."""
     if wrong_size(table, pool):
-        return (1, 0), None
+        return Refusal(1), None
     tree = Tree(table, pool)
     for row in tree.rows:
-        for number, wrong in ROW_REFUSALS:
-            if wrong(tree, row):
-                return (number, row.number), None
-    return (0, 0), tree
+        for number, word, drawn in tries(tree, row):
+            if drawn:
+                return Refusal(number, row.number, word), None
+    return NOT_REFUSED, tree
 
 
 # Lookups.
@@ -381,14 +413,14 @@ def scope_prefix(tree, start, uri):
 
 
 def asked(table, pool, row, query, question):
-    """The refusal, with row; or no refusal, and what the question answers at the row's start element. 8: lookup from a
-    row that isn't in the table."""
+    """The refusal; or no refusal, and what the question answers at the row's start element. 8: lookup from a row that
+    isn't in the table."""
     refusal, tree = checked(tuple(table), bytes(pool))
     if tree is None:
         return refusal, None
     if row >= len(tree.rows):
-        return (8, 0), None
-    return (0, 0), question(tree, start_element(tree, tree.rows[row]), query)
+        return Refusal(8), None
+    return NOT_REFUSED, question(tree, start_element(tree, tree.rows[row]), query)
 
 
 def uri_of_prefix(table, pool, row, query):
@@ -423,32 +455,32 @@ def in_scope_prefix(table, pool, row, query):
 def normalize(table, pool, out_words, out_bytes):
     """Input table and pool are read; output table and pool are written. The rest of both output buffers is zero. Success
     answers the result's row count and pool length; a refusal answers 0 for both."""
-    (number, row), tree = normalized(tuple(table), bytes(pool))
-    if number == 0:
-        number, row = too_much(tree, out_words, out_bytes)
-    if number != 0:
-        return number, row, 0, 0, (0,) * out_words, bytes(out_bytes)
+    refusal, tree = normalized(tuple(table), bytes(pool))
+    if refusal.number == 0:
+        refusal = too_much(tree, out_words, out_bytes)
+    if refusal.number != 0:
+        return (*refusal, 0, 0, (0,) * out_words, bytes(out_bytes))
     words = words_of(tree)
-    return (0, 0, len(tree.rows), len(tree.pool),
+    return (*refusal, len(tree.rows), len(tree.pool),
             words + (0,) * (out_words - len(words)), tree.pool + bytes(out_bytes - len(tree.pool)))
 
 
 @lru_cache(maxsize=1)
 def normalized(table, pool):
-    """The refusal, with row; or no refusal, and the result, whatever room there is for it."""
+    """The refusal; or no refusal, and the result, whatever room there is for it."""
     refusal = check(table, pool)
-    if refusal[0] != 0:
+    if refusal.number != 0:
         return refusal, None
     tree = Tree(table, pool)
     refusal = first_level1(tree)
-    if refusal[0] != 0:
+    if refusal.number != 0:
         return refusal, None
     for element in [row for row in tree.rows if row.type == ELEMENT]:
         repair_element(tree, element)
         for attribute in tree.owned(element, ATTRIBUTE):
             if attribute.uri.text != b"":
                 repair_attribute(tree, element, attribute)
-    return (0, 0), tree
+    return NOT_REFUSED, tree
 
 
 def words_of(tree):
@@ -459,18 +491,18 @@ def first_level1(tree):
     """9: normalization of a table with a type 257 or 258 row; the lowest such row."""
     for row in tree.rows:
         if row.type in (LEVEL1_ELEMENT, LEVEL1_ATTRIBUTE):
-            return 9, row.number
-    return 0, 0
+            return Refusal(9, row.number)
+    return NOT_REFUSED
 
 
 def too_much(tree, out_words, out_bytes):
     """10: the result needs more than 1,024 rows, or more than the whole rows of the output table. 11: the result needs
     more than 32,768 pool bytes, or more than the output pool."""
     if len(tree.rows) > MOST_ROWS or len(tree.rows) > out_words // WIDTH:
-        return 10, 0
+        return Refusal(10)
     if len(tree.pool) > MOST_BYTES or len(tree.pool) > out_bytes:
-        return 11, 0
-    return 0, 0
+        return Refusal(11)
+    return NOT_REFUSED
 
 
 def repair_element(tree, element):
