@@ -157,6 +157,7 @@ fn number_of(refusal: Refusal) -> Number
         Refusal::PoolRoom => Number::new(11, Row(0), 0),
         Refusal::OffsetWithoutLength { row, word } => Number::new(12, row, word),
         Refusal::MustBeEmpty { row, word } => Number::new(13, row, word),
+        Refusal::MalformedUtf8 { row, word } => Number::new(14, row, word),
         Refusal::Mark => Number::new(30, Row(0), 0),
         Refusal::Version => Number::new(31, Row(0), 0),
         Refusal::Lengths => Number::new(32, Row(0), 0),

@@ -13,17 +13,19 @@ use lib.Dec.{eqb, ltb}
 use borrow.Author.Tests.{eqb-true, eq-eqb, ltb-true, ltb-false}
 use Rattle.rules.specs.Lists.{anyOf, isOneOf, isEmpty, sameBytes}
 use Rattle.rules.specs.Table.{WIDTH, MOST-ROWS, MOST-BYTES, NONE, PREFIX, LOCAL-NAME, URI, VALUE, ELEMENT, ATTRIBUTE, DECLARATION, LEVEL1-ELEMENT, LEVEL1-ATTRIBUTE, xmlUri, xmlnsUri, xmlPrefix, xmlnsPrefix, part, Field, noField, Node, wordedFields, nodes, node, rowCount, isElement, ParentRule}
-use Rattle.rules.specs.Refusals.{badSize, parentRule, parentAllowed, secondElement, badStructure, pastPool, offsetWithoutLength, placeRefusal, lengthRefusal, fieldsRefusal, badNames, badNamespace, badDeclaration, isDouble, refusedIf, faults, conflicts, rowRefusal, lowestRefusal, checkRefusal, checked}
+use Rattle.rules.specs.Refusals.{badSize, parentRule, parentAllowed, secondElement, badStructure, pastPool, offsetWithoutLength, placeRefusal, lengthRefusal, fieldsRefusal, encodingRefusal, encodingsRefusal, badNames, badNamespace, badDeclaration, isDouble, refusedIf, faults, conflicts, rowRefusal, lowestRefusal, checkRefusal, checked}
+use Rattle.rules.specs.Utf8.{wellFormed}
 use Rattle.rules.specs.declared.Refusal.{Refusal}
 use Rattle.rules.specs.declared.Checked.{Checked}
 use Rattle.rules.proofs.Lists.{by-cases, both-true, both-false, right-false, true-both, not-false, true-not-false, empty-equal}
 use Rattle.rules.proofs.Table.{length-nodes, node-nodes}
 use Rattle.rules.proofs.Refusals.{not-refused, all-none, verdict-accepted, lowest-none}
 
--- Row r draws none of the refusals 2 to 7, 12 and 13.
+-- Row r draws none of the refusals 2 to 7 and 12 to 14.
 pub record RowAccepted (ns : List Node) (poolLength r : ℕ) : Type 0 where
   pub structure : badStructure ns r ≡ false
   pub fields : fieldsRefusal poolLength r (node ns r) ≡ none
+  pub encodings : encodingsRefusal r (node ns r) ≡ none
   pub names : badNames (node ns r) ≡ false
   pub namespace : badNamespace (node ns r) ≡ false
   pub declaration : badDeclaration (node ns r) ≡ false
@@ -36,10 +38,11 @@ row-accepted ns poolLength r e =
     record {
       structure = not-refused _ _ (a .0);
       fields = a .1 .0;
-      names = not-refused _ _ (a .1 .1 .0);
-      namespace = not-refused _ _ (a .1 .1 .1 .0);
-      declaration = not-refused _ _ (a .1 .1 .1 .1 .0);
-      double = not-refused _ _ (a .1 .1 .1 .1 .1 .0);
+      encodings = a .1 .1 .0;
+      names = not-refused _ _ (a .1 .1 .1 .0);
+      namespace = not-refused _ _ (a .1 .1 .1 .1 .0);
+      declaration = not-refused _ _ (a .1 .1 .1 .1 .1 .0);
+      double = not-refused _ _ (a .1 .1 .1 .1 .1 .1 .0);
     }
 
 -- What is not refused for its size.
@@ -174,6 +177,27 @@ fields-accepted ns poolLength r a =
       local = field-accepted poolLength r LOCAL-NAME (n .local) (each .1 .0);
       uri = field-accepted poolLength r URI (n .uri) (each .1 .1 .0);
       value = field-accepted poolLength r VALUE (n .value) (each .1 .1 .1 .0);
+    }
+
+-- The four fields are well-formed UTF-8.
+pub record FieldsEncoded (n : Node) : Type 0 where
+  pub prefix : wellFormed (n .prefix .bytes) ≡ true
+  pub local : wellFormed (n .local .bytes) ≡ true
+  pub uri : wellFormed (n .uri .bytes) ≡ true
+  pub value : wellFormed (n .value .bytes) ≡ true
+
+field-encoded : (r word : ℕ) (f : Field) → encodingRefusal r (word, f) ≡ none → wellFormed (f .bytes) ≡ true
+field-encoded r word f e = not-false (wellFormed (f .bytes)) (not-refused _ _ e)
+
+pub fields-encoded : (r : ℕ) (n : Node) → encodingsRefusal r n ≡ none → FieldsEncoded n
+unfolding encodingsRefusal
+fields-encoded r n e =
+    let each = all-none (map (encodingRefusal r) (wordedFields n)) e in
+    record {
+      prefix = field-encoded r PREFIX (n .prefix) (each .0);
+      local = field-encoded r LOCAL-NAME (n .local) (each .1 .0);
+      uri = field-encoded r URI (n .uri) (each .1 .1 .0);
+      value = field-encoded r VALUE (n .value) (each .1 .1 .1 .0);
     }
 
 -- A field of an accepted table that has no bytes.

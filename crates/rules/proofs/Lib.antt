@@ -1,5 +1,6 @@
 pub mod Lists
 pub mod Table
+pub mod Utf8
 pub mod Refusals
 pub mod Accepted
 pub mod Scope
@@ -13,3 +14,5 @@ pub mod Demand3
 pub mod Cases
 pub mod Unique
 pub mod Bounds
+pub mod Passable
+pub mod Again

@@ -5,12 +5,12 @@ use mathlib.Core.Path.{_≡_, refl, sym, ap, _∙_, subst}
 use mathlib.Core.Bool.{Bool, true, false}
 use mathlib.Core.List.{List, [], _∷_, _++_, map}
 use mathlib.Core.Option.{Option, none, some, Option·none-ne-some}
-use native.Mathlib.Nat.{le-of-suc-le-suc, not-suc-le-zero, zero-add}
+use native.Mathlib.Nat.{le-refl, le-of-suc-le-suc, not-suc-le-zero, zero-add, add-zero}
 use native.Mathlib.Numerals.{add-one}
 use native.Mathlib.Omega.{arith}
 use lib.ListN.{length, getD}
 use Rattle.rules.specs.Lists.{numbersFrom}
-use Rattle.rules.specs.Refusals.{refusedIf, firstRefusal, lowestRefusal, verdict}
+use Rattle.rules.specs.Refusals.{refusedIf, firstRefusal, lowestRefusal, unlessRefused, verdict}
 use Rattle.rules.specs.declared.Refusal.{Refusal}
 use Rattle.rules.specs.declared.Checked.{Checked}
 use Rattle.rules.proofs.Lists.{length-numbersFrom, getD-numbersFrom}
@@ -51,6 +51,15 @@ first-append [] later = first-alone (firstRefusal later)
 first-append (none ∷ os) later = first-append os later
 first-append (some x ∷ os) later = refl
 
+pub first-assoc : (a b c : Option Refusal) → firstRefusal (firstRefusal (a ∷ b ∷ []) ∷ c ∷ []) ≡ firstRefusal (a ∷ firstRefusal (b ∷ c ∷ []) ∷ [])
+first-assoc none none c = first-alone (firstRefusal (c ∷ []))
+first-assoc none (some y) c = refl
+first-assoc (some x) b c = refl
+
+pub verdict-unless : (o later : Option Refusal) → unlessRefused o Checked.Refused (verdict later) ≡ verdict (firstRefusal (o ∷ later ∷ []))
+verdict-unless none later = ap verdict (first-alone later)
+verdict-unless (some x) later = refl
+
 module _ (o : Option Refusal) (later : List (Option Refusal)) {drawn : Checked} (d : drawn ≡ verdict o) where
   pub first-refused : (x : Refusal) → drawn ≡ Checked.Refused x → drawn ≡ verdict (firstRefusal (o ∷ later))
   first-refused x e = let s = verdict-refused o x (sym d ∙ e) in rw s e
@@ -58,7 +67,32 @@ module _ (o : Option Refusal) (later : List (Option Refusal)) {drawn : Checked} 
   pub first-passed : drawn ≡ Checked.Accepted → firstRefusal (o ∷ later) ≡ firstRefusal later
   first-passed e = let n = verdict-accepted o (sym d ∙ e) in rw n refl
 
--- Rows ascending: what the rows from r on are refused for.
+-- Rows ascending: where none is refused, and the last one apart.
+module _ (row : ℕ → Option Refusal) where
+  nones : (i count : ℕ) → ((r : ℕ) → i ≤ r → r < i + count → row r ≡ none) → firstRefusal (map row (numbersFrom i count)) ≡ none
+  nones i zero h = refl
+  nones i (suc count) h = rw (h i (le-refl i) (omega arith)) (nones (suc i) count (λ r l k. h r (omega arith) (omega arith)))
+
+  pub none-lowest : (count : ℕ) → ((r : ℕ) → r < count → row r ≡ none) → lowestRefusal row count ≡ none
+  none-lowest count h = nones 0 count (λ r l k. h r (omega arith))
+
+  last-apart : (i count : ℕ) → firstRefusal (map row (numbersFrom i (suc count))) ≡ firstRefusal (firstRefusal (map row (numbersFrom i count)) ∷ row (i + count) ∷ [])
+  last-apart i zero = ap (λ (k : ℕ). firstRefusal (row k ∷ [])) (sym (add-zero i))
+  last-apart i (suc count) = go (row i) refl (last-apart (suc i) count)
+    where
+      go : (o : Option Refusal) → row i ≡ o → firstRefusal (map row (numbersFrom (suc i) (suc count))) ≡ firstRefusal (firstRefusal (map row (numbersFrom (suc i) count)) ∷ row (suc i + count) ∷ []) → firstRefusal (map row (numbersFrom i (suc (suc count)))) ≡ firstRefusal (firstRefusal (map row (numbersFrom i (suc count))) ∷ row (i + suc count) ∷ [])
+      go none e later =
+          let n : suc i + count ≡ i + suc count = omega arith in
+          rw e (later ∙ ap (λ (k : ℕ). firstRefusal (firstRefusal (map row (numbersFrom (suc i) count)) ∷ row k ∷ [])) n)
+      go (some x) e later = rw e refl
+
+  pub lowest-next : (r : ℕ) → lowestRefusal row (r + 1) ≡ firstRefusal (lowestRefusal row r ∷ row r ∷ [])
+  lowest-next r =
+      ap (lowestRefusal row) (add-one r)
+      ∙ last-apart 0 r
+      ∙ ap (λ (k : ℕ). firstRefusal (lowestRefusal row r ∷ row k ∷ [])) (zero-add r)
+
+-- What the rows from r on are refused for.
 module _ (row : ℕ → Option Refusal) (count : ℕ) where
   abbrev pub refusalFrom : ℕ → Option Refusal
   refusalFrom r = firstRefusal (map row (numbersFrom r (count - r)))
@@ -76,6 +110,13 @@ module _ (row : ℕ → Option Refusal) (count : ℕ) where
 
   pub from-next : (r : ℕ) → r < count → row r ≡ none → refusalFrom r ≡ refusalFrom (r + 1)
   from-next r h e = unrolled r h ∙ rw e refl
+
+  pub from-first : (r : ℕ) → r < count → refusalFrom r ≡ firstRefusal (row r ∷ refusalFrom (r + 1) ∷ [])
+  from-first r h = go (row r) refl
+    where
+      go : (o : Option Refusal) → row r ≡ o → refusalFrom r ≡ firstRefusal (row r ∷ refusalFrom (r + 1) ∷ [])
+      go none e = from-next r h e ∙ rw e (first-alone (refusalFrom (r + 1)))
+      go (some x) e = from-refused r h x e ∙ rw e refl
 
   pub from-end : (r : ℕ) → count ≤ r → refusalFrom r ≡ none
   from-end r h = let e : count - r ≡ 0 = omega arith in rw e refl

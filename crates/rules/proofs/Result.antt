@@ -12,7 +12,7 @@ use lib.Seq.{take-append-le, drop-append-le, drop-append-seam, take-length, take
 use lib.Dec.{T, eqb, leb, leb·zero}
 use borrow.Author.Tests.{leb-true, le-leb}
 use Rattle.rules.specs.Lists.{anyOf, allOf, sameBytes, isEmpty}
-use Rattle.rules.specs.Table.{WIDTH, PREFIX, LOCAL-NAME, URI, VALUE, ELEMENT, Field, noField, part, Node, fields, noNode, word, fieldAt, nodeAt, rowCount, nodes, words, node}
+use Rattle.rules.specs.Table.{WIDTH, PREFIX, LOCAL-NAME, URI, VALUE, ELEMENT, Field, noField, part, Node, noNode, word, fieldAt, nodeAt, rowCount, nodes, words, node}
 use Rattle.rules.specs.Answers.{numberOf, normalizedNumber, normalizedRows, normalizedBytes}
 use Rattle.rules.specs.Refusals.{firstRefusal, unlessRefused, checkRefusal}
 use Rattle.rules.proofs.Refusals.{all-none}
@@ -50,17 +50,26 @@ fit : (pool : List ℕ) (n : Node) → Fits pool n → fitsIn pool n ≡ true
 unfolding fitsIn
 fit pool n f = true-both (f .prefix) (true-both (f .local) (true-both (f .uri) (f .value)))
 
-in-pool-ends : (pool : List ℕ) (f : Field) → inPool pool f ≡ true → leb (f .offset + f .size) (length pool) ≡ true
-unfolding inPool
-in-pool-ends pool f e = both-true (leb (f .offset + f .size) (length pool)) (sameBytes (f .bytes) (part pool (f .offset) (f .size))) e .0
-
 -- The fields of a row that fits end in the pool.
-pub fits-fields : (pool : List ℕ) (n : Node) → fitsIn pool n ≡ true → allOf (λ (f : Field). leb (f .offset + f .size) (length pool)) (fields n) ≡ true
-fits-fields pool n e =
+pub record Inside (pool : List ℕ) (n : Node) : Type 0 where
+  pub prefix : n .prefix .offset + n .prefix .size ≤ length pool
+  pub local : n .local .offset + n .local .size ≤ length pool
+  pub uri : n .uri .offset + n .uri .size ≤ length pool
+  pub value : n .value .offset + n .value .size ≤ length pool
+
+in-pool-end : (pool : List ℕ) (f : Field) → inPool pool f ≡ true → f .offset + f .size ≤ length pool
+unfolding inPool
+in-pool-end pool f e = leb-true (f .offset + f .size) (length pool) (both-true _ _ e .0)
+
+pub fits-inside : (pool : List ℕ) (n : Node) → fitsIn pool n ≡ true → Inside pool n
+fits-inside pool n e =
     let f = fits pool n e in
-    true-both (in-pool-ends pool (n .prefix) (f .prefix))
-    (true-both (in-pool-ends pool (n .local) (f .local))
-    (true-both (in-pool-ends pool (n .uri) (f .uri)) (true-both (in-pool-ends pool (n .value) (f .value)) refl)))
+    record {
+      prefix = in-pool-end pool (n .prefix) (f .prefix);
+      local = in-pool-end pool (n .local) (f .local);
+      uri = in-pool-end pool (n .uri) (f .uri);
+      value = in-pool-end pool (n .value) (f .value);
+    }
 
 in-pool-grown : (pool more : List ℕ) (f : Field) → inPool pool f ≡ true → inPool (pool ++ more) f ≡ true
 unfolding inPool
@@ -307,6 +316,7 @@ refusal-numbered Refusal.RowRoom = refl
 refusal-numbered Refusal.PoolRoom = refl
 refusal-numbered (Refusal.OffsetWithoutLength r w) = refl
 refusal-numbered (Refusal.MustBeEmpty r w) = refl
+refusal-numbered (Refusal.MalformedUtf8 r w) = refl
 refusal-numbered Refusal.Mark = refl
 refusal-numbered Refusal.Version = refl
 refusal-numbered Refusal.Lengths = refl
@@ -320,6 +330,7 @@ refused-fails tableSize poolSize x = refusal-numbered x
 pub record Succeeds (table pool : List ℕ) (tableSize poolSize : ℕ) : Type 0 where
   pub accepted : checkRefusal table pool ≡ none
   pub level2 : level1Refusal (nodes table pool) ≡ none
+  pub room : roomRefusal tableSize poolSize (normalForm (nodes table pool) pool) ≡ none
   pub outcome : normalized table pool tableSize poolSize ≡ success tableSize poolSize (normalForm (nodes table pool) pool)
 
 pub succeeds : (table pool : List ℕ) (tableSize poolSize : ℕ) → T (succeeded (normalized table pool tableSize poolSize)) → Succeeds table pool tableSize poolSize
@@ -332,6 +343,7 @@ succeeds table pool tableSize poolSize t =
     record {
       accepted = a .0;
       level2 = a .1 .0;
+      room = a .1 .1 .0;
       outcome = ap (λ (o : Option Refusal). unlessRefused o (refusal tableSize poolSize) (success tableSize poolSize result)) unrefused;
     }
   where

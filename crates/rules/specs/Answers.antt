@@ -34,6 +34,7 @@ numberOf Refusal.RowRoom = record { number = 10; row = 0; word = 0 }
 numberOf Refusal.PoolRoom = record { number = 11; row = 0; word = 0 }
 numberOf (Refusal.OffsetWithoutLength r w) = record { number = 12; row = r .0; word = w }
 numberOf (Refusal.MustBeEmpty r w) = record { number = 13; row = r .0; word = w }
+numberOf (Refusal.MalformedUtf8 r w) = record { number = 14; row = r .0; word = w }
 numberOf Refusal.Mark = record { number = 30; row = 0; word = 0 }
 numberOf Refusal.Version = record { number = 31; row = 0; word = 0 }
 numberOf Refusal.Lengths = record { number = 32; row = 0; word = 0 }

@@ -105,6 +105,12 @@ cases =
     ∷ record { table = row 3 NONE (0, 1) (0, 0) (0, 0) (0, 2); pool = ascii "a"; tableSize = 10; poolSize = 1; answer = 3 ∷ 0 ∷ 8 ∷ 0 ∷ 0 ∷ []; outTable = replicate 10 0; outPool = replicate 1 0 }
     -- a text: 13 of the local name before 13 of the URI
     ∷ record { table = row 3 NONE (0, 0) (0, 1) (0, 1) (0, 0); pool = ascii "a"; tableSize = 10; poolSize = 1; answer = 13 ∷ 0 ∷ 4 ∷ 0 ∷ 0 ∷ []; outTable = replicate 10 0; outPool = replicate 1 0 }
+    -- a text: 14 of a value that ends within a sequence, though the pool goes on
+    ∷ record { table = row 3 NONE (0, 0) (0, 0) (0, 0) (0, 1); pool = 0xC3 ∷ 0xA9 ∷ []; tableSize = 10; poolSize = 1; answer = 14 ∷ 0 ∷ 8 ∷ 0 ∷ 0 ∷ []; outTable = replicate 10 0; outPool = replicate 1 0 }
+    -- a text: 13 of the local name before 14 of the value
+    ∷ record { table = row 3 NONE (0, 0) (0, 1) (0, 0) (0, 1); pool = 0xFF ∷ []; tableSize = 10; poolSize = 1; answer = 13 ∷ 0 ∷ 4 ∷ 0 ∷ 0 ∷ []; outTable = replicate 10 0; outPool = replicate 1 0 }
+    -- an attribute without a name: 14 of the URI before 14 of the value and before 4
+    ∷ record { table = row 2 NONE (0, 0) (0, 0) (0, 1) (0, 1); pool = 0xFF ∷ []; tableSize = 10; poolSize = 1; answer = 14 ∷ 0 ∷ 6 ∷ 0 ∷ 0 ∷ []; outTable = replicate 10 0; outPool = replicate 1 0 }
     -- M1: A
     ∷ record { table = exampleA; pool = ascii "aU"; tableSize = 20; poolSize = 2; answer = 0 ∷ 0 ∷ 0 ∷ 2 ∷ 2 ∷ []; outTable = exampleA ++ row 13 0 (0, 0) (0, 0) (0, 0) (1, 1); outPool = ascii "aU" }
     -- M2: B, with room left over

@@ -1,4 +1,5 @@
--- RULES 6, demands: demand 3. It speaks of outcomes: the answer and the whole output buffers.
+-- RULES 6, demands: demand 3, and before it that a result passes the check. They speak of outcomes: the answer and the whole
+-- output buffers.
 use Prim.Native.Nat.{ℕ, zero, suc, _*_, _<_}
 use mathlib.Core.Path.{_≡_}
 use mathlib.Core.Bool.{Bool, cond, _&&_, _||_, not}
@@ -8,16 +9,31 @@ use lib.Dec.{T, eqb, ltb}
 use Rattle.rules.specs.Lists.{filtered, isOneOf, isEmpty, sameBytes}
 use Rattle.rules.specs.Table.{WIDTH, NONE, ELEMENT, ATTRIBUTE, DECLARATION, Field, Node, fields, nodes, node}
 use Rattle.rules.specs.Answers.{normalizedNumber, normalizedRows, normalizedBytes}
+use Rattle.rules.specs.Refusals.{checked}
 use Rattle.rules.specs.Lookups.{scopeAt, inScopeUri, uriBytes}
 use Rattle.rules.specs.Normalization.{Outcome, normalized}
+use Rattle.rules.specs.declared.Checked.{Checked}
 
 -- Normalization succeeded.
 unfoldable pub succeeded : Outcome → Bool
 succeeded o = eqb (normalizedNumber (o .answer) .number) 0
 
--- The result: the rows that the answered part of the output table has over the answered part of the output pool.
+-- The answered parts of the output table and the output pool.
+abbrev pub resultTable : Outcome → List ℕ
+resultTable o = take (WIDTH * normalizedRows (o .answer)) (o .table)
+
+abbrev pub resultPool : Outcome → List ℕ
+resultPool o = take (normalizedBytes (o .answer)) (o .pool)
+
+-- The result: the rows that the one has over the other.
 unfoldable pub resultRows : Outcome → List Node
-resultRows o = nodes (take (WIDTH * normalizedRows (o .answer)) (o .table)) (take (normalizedBytes (o .answer)) (o .pool))
+resultRows o = nodes (resultTable o) (resultPool o)
+
+-- A result passes the whole check again.
+abbrev pub PassesAgain : Type 0
+PassesAgain =
+    (table pool : List ℕ) (tableSize poolSize : ℕ) → T (succeeded (normalized table pool tableSize poolSize)) →
+    checked (resultTable (normalized table pool tableSize poolSize)) (resultPool (normalized table pool tableSize poolSize)) ≡ Checked.Accepted
 
 -- An element means its URI if the in-scope URI of its prefix (or default) is it, none for none.
 unfoldable pub elementMeansIn : List Node → Node → Bool

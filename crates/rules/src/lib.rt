@@ -98,6 +98,8 @@ pub enum Refusal {
     OffsetWithoutLength { row: Row, word: u32 },
     // 13: a field that has a length and must be empty.
     MustBeEmpty { row: Row, word: u32 },
+    // 14: a field that is not well-formed UTF-8.
+    MalformedUtf8 { row: Row, word: u32 },
     // 30: a bundle's mark is another, or not whole.
     Mark,
     // 31: a bundle is of another version, or ends before it.
