@@ -3,7 +3,8 @@
 use lib.Dec.{T}
 use Rattle.rules.specs.Table.{xmlUri, xmlnsUri, xmlPrefix, xmlnsPrefix, nodes, words, node}
 use Rattle.rules.specs.Answers.{numberOf, checkNumber, readNumber, readRows, readBytes, writtenNumber, writtenBytes}
-use Rattle.rules.specs.Refusals.{badSize, parentRule, parentAllowed, secondElement, badStructure, mustBeEmpty, fieldsRefusal, goodName, badNames, badNamespace, badDeclaration, isDouble, faults, conflicts, rowRefusal, checkRefusal, checked}
+use Rattle.rules.specs.Utf8.{following, wellFormed}
+use Rattle.rules.specs.Refusals.{badSize, parentRule, parentAllowed, secondElement, badStructure, mustBeEmpty, fieldsRefusal, encodingsRefusal, goodName, badNames, badNamespace, badDeclaration, isDouble, faults, conflicts, rowRefusal, checkRefusal, checked}
 use Rattle.rules.specs.Lookups.{climb, elementsFrom, ownDeclarations, scopeOf, scopeAt, inScopeUri}
 use Rattle.rules.specs.Normalization.{declare, repairElement, repairAttribute, repairAttributes, normalizeRow, normalizeRows, normalForm, padded, tooManyRows, tooManyBytes, level1Refusal, roomRefusal, normalizationRefusal}
 use Rattle.little_endian.specs.Numbers.{wordsFrom}
@@ -12,5 +13,5 @@ use Rattle.bundles.specs.Operations.{tableReadRefusal, readRefused, read
 use Rattle.bundles.specs.Cases.{checkGives, readGives, writeGives, sameLists, cases, allPass}
 
 pub all-pass : T allPass
-unfolding xmlUri xmlnsUri xmlPrefix xmlnsPrefix nodes words node numberOf checkNumber readNumber readRows readBytes writtenNumber writtenBytes badSize parentRule parentAllowed secondElement badStructure mustBeEmpty fieldsRefusal goodName badNames badNamespace badDeclaration isDouble faults conflicts rowRefusal checkRefusal checked climb elementsFrom ownDeclarations scopeOf scopeAt inScopeUri declare repairElement repairAttribute repairAttributes normalizeRow normalizeRows normalForm padded tooManyRows tooManyBytes level1Refusal roomRefusal normalizationRefusal wordsFrom writeBundle wrongMark otherVersion badLengths bundleRefusal bundleTable bundlePool tableReadRefusal readRefused readDone tableRead writeRefused writeDone bundleWritten tableWritten bundleRead bundleChecked stateBundle normalizedInto bundleNormalized checkGives readGives writeGives sameLists cases allPass
+unfolding xmlUri xmlnsUri xmlPrefix xmlnsPrefix nodes words node numberOf checkNumber readNumber readRows readBytes writtenNumber writtenBytes badSize parentRule parentAllowed secondElement badStructure mustBeEmpty fieldsRefusal following wellFormed encodingsRefusal goodName badNames badNamespace badDeclaration isDouble faults conflicts rowRefusal checkRefusal checked climb elementsFrom ownDeclarations scopeOf scopeAt inScopeUri declare repairElement repairAttribute repairAttributes normalizeRow normalizeRows normalForm padded tooManyRows tooManyBytes level1Refusal roomRefusal normalizationRefusal wordsFrom writeBundle wrongMark otherVersion badLengths bundleRefusal bundleTable bundlePool tableReadRefusal readRefused readDone tableRead writeRefused writeDone bundleWritten tableWritten bundleRead bundleChecked stateBundle normalizedInto bundleNormalized checkGives readGives writeGives sameLists cases allPass
 all-pass = tt

@@ -9,17 +9,17 @@ use mathlib.Core.Option.{Option, none, some}
 use native.Mathlib.Nat.{le-refl}
 use native.Mathlib.Omega.{arith}
 use lib.ListN.{length, set}
-use lib.Dec.{eqb, leb}
-use borrow.Author.Tests.{eqb-true, lt-ltb, leb-true}
+use lib.Dec.{eqb}
+use borrow.Author.Tests.{eqb-true, lt-ltb}
 use Rattle.rules.specs.Lists.{anyOf, allOf, isEmpty, sameBytes}
-use Rattle.rules.specs.Table.{MOST-ROWS, MOST-BYTES, NONE, ELEMENT, Field, noField, Node, noNode, fields, nodes, wordsOf, words, node, ParentRule, allowedParents}
+use Rattle.rules.specs.Table.{MOST-ROWS, MOST-BYTES, NONE, ELEMENT, Field, noField, Node, noNode, nodes, wordsOf, words, node, ParentRule, allowedParents}
 use Rattle.rules.specs.Refusals.{parentRule, parentAllowed}
 use Rattle.rules.specs.Lookups.{scopeAt, inScopeUri, uriBytes}
 use Rattle.rules.specs.Normalization.{State, newDeclaration, withPrefix, isOwnDeclaration, revalued, declare, repairElement, Repair, keep, takeDeclared, takeBuiltIn, declareOwn, makeNumbered, repairOf, newPrefix, newRows, perform, isAttributeOf, repairAttribute, repairAttributes, normalizeRow, normalizeRows, normalForm}
 use Rattle.rules.proofs.Lists.{by-cases, both-true, true-both, true-not-false, allOf-append, allOf-every, allOf-set, allOf-map, allOf-firstThat, firstThat-passes}
 use Rattle.rules.proofs.Table.{length-nodes}
 use Rattle.rules.proofs.Accepted.{Accepted, few-rows, parent-allowed, parent-falls}
-use Rattle.rules.proofs.Result.{fitsIn, fits-fields, pool-rows, input-pool}
+use Rattle.rules.proofs.Result.{fitsIn, Inside, fits-inside, pool-rows, input-pool}
 use Rattle.little_endian.proofs.Numbers.{isWord}
 
 -- The row's type and parent are words.
@@ -27,23 +27,16 @@ abbrev isHeaded : Node → Bool
 isHeaded n = isWord (n .type) && isWord (n .parent)
 
 -- A field that ends in a pool of bounded length.
-field-words : (limit : ℕ) (f : Field) → limit ≤ MOST-BYTES → leb (f .offset + f .size) limit ≡ true → (isWord (f .offset) ≡ true) × (isWord (f .size) ≡ true)
-field-words limit f small e =
-    let h = leb-true (f .offset + f .size) limit e in
-    (lt-ltb (f .offset) 4294967296 (omega arith), lt-ltb (f .size) 4294967296 (omega arith))
+field-words : (limit : ℕ) (f : Field) → limit ≤ MOST-BYTES → f .offset + f .size ≤ limit → (isWord (f .offset) ≡ true) × (isWord (f .size) ≡ true)
+field-words limit f small h = (lt-ltb (f .offset) 4294967296 (omega arith), lt-ltb (f .size) 4294967296 (omega arith))
 
-row-words : (limit : ℕ) (n : Node) → limit ≤ MOST-BYTES → allOf (λ (f : Field). leb (f .offset + f .size) limit) (fields n) ≡ true → isHeaded n ≡ true → allOf isWord (wordsOf n) ≡ true
-row-words limit n small e h =
-    let ends : Field → Bool = λ (f : Field). leb (f .offset + f .size) limit in
-    let p = both-true (ends (n .prefix)) (allOf ends (n .local ∷ n .uri ∷ n .value ∷ [])) e in
-    let l = both-true (ends (n .local)) (allOf ends (n .uri ∷ n .value ∷ [])) (p .1) in
-    let u = both-true (ends (n .uri)) (allOf ends (n .value ∷ [])) (l .1) in
-    let v = both-true (ends (n .value)) true (u .1) in
+row-words : (pool : List ℕ) (n : Node) → length pool ≤ MOST-BYTES → Inside pool n → isHeaded n ≡ true → allOf isWord (wordsOf n) ≡ true
+row-words pool n small i h =
     let head = both-true (isWord (n .type)) (isWord (n .parent)) h in
-    let prefix = field-words limit (n .prefix) small (p .0) in
-    let local = field-words limit (n .local) small (l .0) in
-    let uri = field-words limit (n .uri) small (u .0) in
-    let value = field-words limit (n .value) small (v .0) in
+    let prefix = field-words (length pool) (n .prefix) small (i .prefix) in
+    let local = field-words (length pool) (n .local) small (i .local) in
+    let uri = field-words (length pool) (n .uri) small (i .uri) in
+    let value = field-words (length pool) (n .value) small (i .value) in
     rw (head .0, head .1, prefix .0, prefix .1, local .0, local .1, uri .0, uri .1, value .0, value .1) refl
 
 all-words : (pool : List ℕ) (ns : List Node) → length pool ≤ MOST-BYTES → allOf (fitsIn pool) ns ≡ true → allOf isHeaded ns ≡ true → allOf isWord (words ns) ≡ true
@@ -52,7 +45,7 @@ all-words pool [] small fit head = refl
 all-words pool (n ∷ ns) small fit head =
     let f = both-true (fitsIn pool n) (allOf (fitsIn pool) ns) fit in
     let h = both-true (isHeaded n) (allOf isHeaded ns) head in
-    allOf-append isWord (wordsOf n) (words ns) (row-words (length pool) n small (fits-fields pool n (f .0)) (h .0))
+    allOf-append isWord (wordsOf n) (words ns) (row-words pool n small (fits-inside pool n (f .0)) (h .0))
     (all-words pool ns small (f .1) (h .1))
 
 -- The type of an accepted row is one of the rules', and its parent is NONE or an earlier row.

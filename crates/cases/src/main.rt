@@ -1,7 +1,9 @@
 // Runs the cases of RULES 7.3, which are not proved of the definitions, and prints what each gave. The
 // cases stand in the standard input, one to a line, with `|` between the parts of a line: the operation, two
-// parts that it asks for, the table, written out, and the pool. A line that names no operation is printed as it is.
+// parts that it asks for, the table, written out, and the pool, whose bytes stand behind a `#` in
+// hexadecimal. A line that names no operation is printed as it is.
 mod check_cases;
+mod hexadecimal;
 mod lookup_cases;
 mod lookup_report;
 mod normalize_cases;
@@ -34,8 +36,14 @@ fn case(line: &[u8]) {
 }
 
 fn with_table(line: &[u8], table: &[u32]) {
-    let plenty: [u8; parts::MOST] = [b'a'; parts::MOST];
-    run(line, table, parts::pool(parts::part(line, 4), &plenty));
+    let mut plenty: [u8; parts::MOST] = [b'a'; parts::MOST];
+    let written = parts::part(line, 4);
+    if !parts::is_hexadecimal(written) {
+        run(line, table, parts::pool(written, &plenty));
+        return;
+    }
+    let count = hexadecimal::read(parts::between(written, 1, written.len()), &mut plenty);
+    run(line, table, &plenty[..count]);
 }
 
 fn run(line: &[u8], table: &[u32], pool: &[u8]) {

@@ -37,6 +37,14 @@ pub fn pool<'a>(written: &'a [u8], plenty: &'a [u8]) -> &'a [u8] {
     between(plenty, 0, words::number(written) as usize)
 }
 
+// A pool whose bytes are written in hexadecimal: `#` comes first.
+pub fn is_hexadecimal(written: &[u8]) -> bool {
+    if written.len() == 0 {
+        return false;
+    }
+    written[0] == b'#'
+}
+
 // The bytes from one index to another; none where there are no such bytes.
 pub fn between(bytes: &[u8], from: usize, to: usize) -> &[u8] {
     if to > bytes.len() {

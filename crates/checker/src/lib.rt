@@ -1,9 +1,11 @@
-// The check of a node table: refusals 1 to 7, 12 and 13.
+// The check of a node table: refusals 1 to 7 and 12 to 14.
 ghost use mathlib.Core.Path.{_≡_};
 ghost use Prim.Native.Nat.{_≤_, _<_};
-ghost use Rattle.rules.specs.Table.{MOST-ROWS, rowCount};
+ghost use Rattle.rules.specs.Table.{MOST-ROWS, rowCount, isElement};
 ghost use Rattle.rules.specs.Refusals.{badSize, verdict, checked};
-ghost use Rattle.checker.specs.Pass.{refusalAt, rowsRefusal, Seen};
+ghost use Rattle.tree.specs.Chains.{isOwned, Latest, ParentBefore, Chained};
+ghost use Rattle.checker.specs.Pass.{layoutRefusal, namesRefusal, rowsRefusal};
+use encodings::unless_malformed;
 use fields::declaration;
 use fields::field;
 use fields::name;
@@ -33,7 +35,9 @@ fn bad_size(table: &[u32], pool: &[u8]) -> bool
         | (pool.len() > rules::MOST_BYTES)
 }
 
-// Refusals 2 to 7, 12 and 13, rows ascending. The arrays of links grow with the pass.
+// Refusals 2 to 7 and 12 to 14, rows ascending. The arrays of links grow with the pass. Refusal 14 is
+// tried where the pass ends, in the rows that come before what it has drawn, and in that row itself
+// where it is 4 to 7: a pool of ASCII then takes one look, and no row takes any.
 fn check_rows(table: &[u32], pool: &[u8]) -> Checked
     requires { ⌜ rowCount (now table) ≤ MOST-ROWS ⌝ }
     ensures { λ r. ⌜ r ≡ verdict (rowsRefusal (now (table .entry)) (now (pool .entry))) ⌝ }
@@ -43,37 +47,40 @@ fn check_rows(table: &[u32], pool: &[u8]) -> Checked
     let mut previous = [rules::NONE; rules::MOST_ROWS];
     let mut r: u32 = 0;
     while rows::has_row(table, Row(r)) {
-        let drawn = check_row(table, pool, &children, &latest, &previous, Row(r));
-        let Checked::Accepted = drawn else {
-            return drawn;
+        let layout = check_layout(table, pool, &children, Row(r));
+        let Checked::Accepted = layout else {
+            return unless_malformed(table, pool, r, layout);
+        };
+        let names = check_names(table, pool, &latest, &previous, Row(r));
+        let Checked::Accepted = names else {
+            return unless_malformed(table, pool, r + 1, names);
         };
         structure::add(table, &mut children, Row(r));
         double::add(table, &mut latest, &mut previous, Row(r));
         r += 1;
     }
-    Checked::Accepted
+    unless_malformed(table, pool, r, Checked::Accepted)
 }
 
-// The refusal that one row draws, tried for 2 to 7 in that order; 12 and 13 are tried with 3.
-fn check_row(
-    table: &[u32],
-    pool: &[u8],
-    children: &[u32],
-    latest: &[u32],
-    previous: &[u32],
-    row: Row,
-) -> Checked
+// What comes before 14 in a row: 2, then 3 and 12, then 13.
+fn check_layout(table: &[u32], pool: &[u8], children: &[u32], row: Row) -> Checked
     requires { ⌜ row .0 < rowCount (now table) ⌝ }
-    requires { ⌜ Seen (now table) (now children) (now latest) (now previous) (row .0) ⌝ }
-    ensures { λ r. ⌜ r ≡ verdict (refusalAt (now (table .entry)) (now (pool .entry)) (row .0)) ⌝ }
+    requires { ⌜ Latest isElement (now table) (now children) (row .0) ⌝ }
+    ensures { λ r. ⌜ r ≡ verdict (layoutRefusal (now (table .entry)) (now (pool .entry)) (row .0)) ⌝ }
 {
     if structure::bad(table, children, row) {
         return Checked::Refused(Refusal::Structure(row));
     }
-    let fields = field::check(table, pool, row);
-    let Checked::Accepted = fields else {
-        return fields;
-    };
+    field::check(table, pool, row)
+}
+
+// What comes after 14 in a row: 4 to 7.
+fn check_names(table: &[u32], pool: &[u8], latest: &[u32], previous: &[u32], row: Row) -> Checked
+    requires { ⌜ row .0 < rowCount (now table) ⌝ }
+    requires { ⌜ ParentBefore (now table) (row .0) ⌝ }
+    requires { ⌜ Chained isOwned (now table) (now latest) (now previous) (row .0) ⌝ }
+    ensures { λ r. ⌜ r ≡ verdict (namesRefusal (now (table .entry)) (now (pool .entry)) (row .0)) ⌝ }
+{
     if name::bad(table, pool, row) {
         return Checked::Refused(Refusal::Names(row));
     }
