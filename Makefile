@@ -42,7 +42,7 @@ target/example/%: example/%.c include/noemathu.h $(LIBRARY)
 	mkdir -p target/example
 	$(CC) -std=c11 $(CFLAGS) $(warnings) -Iinclude -o $@ $< $(LIBRARY)
 
-test: test-header test-boundary test-example test-install test-compare
+test: test-header test-boundary test-example test-install test-utf8 test-compare
 	@echo "the tests of the C interface passed"
 
 # The header alone, as C and as C++.
@@ -75,9 +75,13 @@ test-install:
 	grep -q '^Version: $(version)$$' $(tried)/usr/lib/pkgconfig/noemathu.pc
 	test -s $(tried)/usr/share/man/man3/noemathu.3
 
+# Refusal 14 and Python's decoder give the same answers.
+test-utf8: $(LIBRARY)
+	tests/utf8 --library $(LIBRARY)
+
 # The library and the second reading of the rules give the same answers, and the comparison finds the planted faults.
 test-compare: $(LIBRARY)
 	tests/compare --library $(LIBRARY) --count $(BUNDLES)
 	tests/test-the-test --library $(LIBRARY)
 
-.PHONY: all install example test test-header test-boundary test-example test-install test-compare
+.PHONY: all install example test test-header test-boundary test-example test-install test-utf8 test-compare

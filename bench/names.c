@@ -1,10 +1,11 @@
-/* Compares two namespace URIs of one length by a function of the library, so many times, and prints whether it found them
-   equal; or, asked for times, how much longer each function takes for 16,000 bytes than for 16 where the URIs differ in
-   the last byte.
+/* Compares two namespace URIs by a function of the library, so many times, and prints whether it found them equal; or, asked
+   for times, how much longer each function takes for URIs of 16,000 bytes that differ in the last byte than where one of
+   them is a byte shorter.
    Usage: names CALL URIS LENGTH TIMES, or names times
      CALL  default or prefix: an element's URI and the one that is asked about, without a prefix and with one;
            check: the URIs of two attributes of one element, which have the same local name
-     URIS  equal, or which byte is the only one that differs: last or first */
+     URIS  equal, or which byte is the only one that differs: last or first; or shorter: the second is without its last
+           byte, so that no bytes are compared, and what is left is what else the call costs with as many bytes */
 #include <noemathu.h>
 #include <stdio.h>
 #include <stdlib.h>
@@ -14,7 +15,7 @@
 enum { MOST = 16000, ROUNDS = 101, CALLS = 100 };
 
 static uint8_t bundle[NOEMATHU_BUNDLE_MOST], other[MOST];
-static size_t length, uri_length;
+static size_t length, uri_length, other_length;
 
 static void put(uint32_t number, size_t bytes)
 {
@@ -23,9 +24,9 @@ static void put(uint32_t number, size_t bytes)
 }
 
 /* A row without a value; the pool begins with `pa`, and behind that stand the URIs. */
-static void put_row(uint32_t type, uint32_t parent, uint32_t prefix_length, size_t uri)
+static void put_row(uint32_t type, uint32_t parent, uint32_t prefix_length, size_t uri, size_t bytes)
 {
-    uint32_t words[NOEMATHU_ROW_WORDS] = {type, parent, 0, prefix_length, 1, 1, (uint32_t)uri, uri ? (uint32_t)uri_length : 0};
+    uint32_t words[NOEMATHU_ROW_WORDS] = {type, parent, 0, prefix_length, 1, 1, (uint32_t)uri, (uint32_t)bytes};
     for (size_t i = 0; i < NOEMATHU_ROW_WORDS; i++)
         put(words[i], 4);
 }
@@ -42,6 +43,7 @@ static void make(const char *call, const char *uris, size_t bytes)
 {
     int attributes = strcmp(call, "check") == 0;
     uri_length = bytes;
+    other_length = bytes - (strcmp(uris, "shorter") == 0);
     make_uri(other);
     if (strcmp(uris, "last") == 0)
         other[bytes - 1] ^= 1;
@@ -53,11 +55,11 @@ static void make(const char *call, const char *uris, size_t bytes)
     put(attributes ? 3 : 1, 2);
     put((uint32_t)(2 + (attributes ? 2 : 1) * bytes), 4);
     if (attributes) {
-        put_row(NOEMATHU_ELEMENT, NOEMATHU_NONE, 0, 0);
-        put_row(NOEMATHU_ATTRIBUTE, 0, 0, 2);
-        put_row(NOEMATHU_ATTRIBUTE, 0, 0, 2 + bytes);
+        put_row(NOEMATHU_ELEMENT, NOEMATHU_NONE, 0, 0, 0);
+        put_row(NOEMATHU_ATTRIBUTE, 0, 0, 2, bytes);
+        put_row(NOEMATHU_ATTRIBUTE, 0, 0, 2 + bytes, other_length);
     } else {
-        put_row(NOEMATHU_ELEMENT, NOEMATHU_NONE, strcmp(call, "prefix") == 0, 2);
+        put_row(NOEMATHU_ELEMENT, NOEMATHU_NONE, strcmp(call, "prefix") == 0, 2, bytes);
     }
     put('p' | 'a' << 8, 2);
     make_uri(bundle + length);
@@ -71,13 +73,13 @@ static void make(const char *call, const char *uris, size_t bytes)
 /* Whether the URIs were found equal; -1 for a refusal that should not be. */
 static int is_default(void)
 {
-    noemathu_tested tested = noemathu_is_default(bundle, length, 0, other, uri_length);
+    noemathu_tested tested = noemathu_is_default(bundle, length, 0, other, other_length);
     return tested.refusal.number ? -1 : tested.yes;
 }
 
 static int prefix(void)
 {
-    noemathu_found found = noemathu_prefix_of_uri(bundle, length, 0, other, uri_length);
+    noemathu_found found = noemathu_prefix_of_uri(bundle, length, 0, other, other_length);
     return found.refusal.number ? -1 : found.found == NOEMATHU_PLACE;
 }
 
@@ -111,19 +113,20 @@ static int by_size(const void *a, const void *b)
     return (x > y) - (x < y);
 }
 
-/* The middle one of the ratios of many rounds, each of which times both lengths one after the other. */
+/* The middle one of the ratios of many rounds, each of which times both one after the other. */
 static void print_ratios(void)
 {
     for (size_t c = 0; c < sizeof calls / sizeof *calls; c++) {
         double ratios[ROUNDS];
         for (int i = 0; i < ROUNDS; i++) {
-            make(calls[c].name, "last", 16);
+            make(calls[c].name, "shorter", MOST);
             double shorter = seconds(calls[c].run);
             make(calls[c].name, "last", MOST);
             ratios[i] = seconds(calls[c].run) / shorter;
         }
         qsort(ratios, ROUNDS, sizeof *ratios, by_size);
-        printf("%s: %.3f times as long for %d bytes as for 16\n", calls[c].name, ratios[ROUNDS / 2], MOST);
+        printf("%s: %.3f times as long for %d bytes that differ in the last as for other lengths\n", calls[c].name,
+               ratios[ROUNDS / 2], MOST);
     }
 }
 

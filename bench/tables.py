@@ -29,13 +29,14 @@ class Numbers:
 
 
 class Table:
-    def __init__(self):
-        self.rows, self.pool, self.places = [], bytearray(), {}
+    def __init__(self, letters=None):
+        self.rows, self.pool, self.places, self.letters = [], bytearray(), {}, letters or {}
 
     def place(self, text):
-        """Where the pool holds the text, which is put there once."""
+        """Where the pool holds the text, in the table's letters, which is put there once."""
+        text = text.translate(self.letters)
         if text not in self.places:
-            self.places[text] = (len(self.pool), len(text))
+            self.places[text] = (len(self.pool), len(text.encode()))
             self.pool += text.encode()
         return self.places[text]
 
@@ -69,9 +70,9 @@ def add_attribute(table, numbers, owner, word):
         table.add(2, owner, local=table.place(word), value=value)
 
 
-def ordinary(rows):
+def ordinary(rows, letters=None):
     """Elements with prefixes and up to three attributes, texts, now and then a declaration or a comment."""
-    table, numbers = Table(), Numbers(1)
+    table, numbers = Table(letters), Numbers(1)
     elements = [start(table)]
     while len(table.rows) < rows:
         parent = elements[-1 - numbers.below(min(8, len(elements)))]
@@ -90,6 +91,18 @@ def ordinary(rows):
         else:
             table.add(3, parent, value=table.place("text %d" % numbers.below(500)))
     del table.rows[rows:]
+    return table
+
+
+def cyrillic(rows):
+    """As ordinary, each letter one of two bytes; digits, spaces and marks stay."""
+    return ordinary(rows, {ord("a") + i: 0x430 + i for i in range(26)})
+
+
+def accent(rows):
+    """As ordinary, and one character of two bytes, in the last row."""
+    table = ordinary(rows)
+    table.rows[-1] = (8, table.rows[-1][1], *NOTHING, *NOTHING, *NOTHING, *table.place("caf\u00e9"))
     return table
 
 
@@ -293,7 +306,7 @@ def both_declared(rows):
     return in_each_other(rows, (1, 5), True)
 
 
-CHECKED = (ordinary, apart, one_owner, texts, long_names)
+CHECKED = (ordinary, cyrillic, accent, apart, one_owner, texts, long_names)
 ASKED = (chain,)
 NORMALIZED = (typical, deep, wide, shadowed, shadowed_once, numbered, references)
 DEEPEST = (elements_own, elements_declared, references_own, references_declared, both_own, both_declared)

@@ -54,7 +54,7 @@
    namespace (DOM Level 1): the whole name, with a colon or not, stands in the
    local name. Prefixes and local names are ASCII letters, digits, `-`, `.`, `_`
    and bytes from 128 on, and begin with no digit, `-` or `.`. URIs and values are
-   any bytes, and URIs are compared byte by byte.
+   any text, and URIs are compared byte by byte. Every field is UTF-8 by RFC 3629.
 
 
    A bundle, byte by byte
@@ -117,14 +117,14 @@
    Every function takes any bytes whatever, judges the whole bundle or table
    first, and always returns; a lookup costs little more than that judgement.
    Each answer begins with a refusal: its number, 0 if the call was not refused,
-   the row that is at fault, 0 where no row is, and for 3, 12 and 13 the word, 2,
-   4, 6 or 8, at which the field at fault begins, 0 for all others; see
+   the row that is at fault, 0 where no row is, and for 3, 12, 13 and 14 the word,
+   2, 4, 6 or 8, at which the field at fault begins, 0 for all others; see
    noemathu_field. The rest of a refused answer is 0: nothing found, no, nothing
    used.
 
    The first fault is named. The numbers are tried in this order: 30, 31, 32; 1;
    then row after row, each for 2; its fields in order, each for 3 and 12; its
-   fields again for 13; 4 to 7; then 8, 9, 10, 11; then 33.
+   fields again for 13, and again for 14; 4 to 7; then 8, 9, 10, 11; then 33.
 
    What was found is told by its place, an offset and a length in the pool of the
    bundle that was asked: see noemathu_bytes. */
@@ -245,6 +245,12 @@ extern "C" {
    for offset and length, or mend the type. */
 #define NOEMATHU_REFUSED_MUST_BE_EMPTY 13
 
+/* The field's bytes are not well-formed UTF-8 by RFC 3629: text in another
+   encoding, a character that the field's end or start cuts, a surrogate, a form
+   longer than need be, or more than U+10FFFF. Encode the text as UTF-8; let
+   offset and length fall between characters. */
+#define NOEMATHU_REFUSED_MALFORMED_UTF8 14
+
 /* The bytes do not begin with `NTB`. This is no bundle. */
 #define NOEMATHU_REFUSED_MARK 30
 
@@ -277,6 +283,7 @@ static inline const char *noemathu_text(uint32_t number)
     case NOEMATHU_REFUSED_POOL_ROOM: return "too many pool bytes for the result";
     case NOEMATHU_REFUSED_OFFSET: return "a field with an offset and no length";
     case NOEMATHU_REFUSED_MUST_BE_EMPTY: return "a field that must be empty";
+    case NOEMATHU_REFUSED_MALFORMED_UTF8: return "a field that is not well-formed UTF-8";
     case NOEMATHU_REFUSED_MARK: return "no bundle: it does not begin with NTB";
     case NOEMATHU_REFUSED_VERSION: return "a bundle of another version";
     case NOEMATHU_REFUSED_LENGTHS: return "a bundle that was cut, lengthened or damaged";
@@ -349,8 +356,8 @@ typedef struct noemathu_used {
 
 /* The functions. */
 
-/* Judges a bundle. Refusals: 30 to 32, 1 to 7, 12, 13. A bundle that is accepted here is
-   accepted by all others too, apart from 8 to 11 and 33. */
+/* Judges a bundle. Refusals: 30 to 32, 1 to 7, 12 to 14. A bundle that is
+   accepted here is accepted by all others too, apart from 8 to 11 and 33. */
 noemathu_refusal noemathu_check(const uint8_t *bundle, size_t length);
 
 /* The lookups start at an element. From an attribute or a declaration that is its
@@ -361,30 +368,31 @@ noemathu_refusal noemathu_check(const uint8_t *bundle, size_t length);
 /* The URI that a prefix means at a row, by the names and declarations of the
    elements there and outward; the empty prefix is the default namespace. Found:
    a place or nothing; the lookup of DOM Level 3, for which `xml` and `xmlns` are
-   like any prefix. Refusals: 30 to 32, 1 to 8, 12, 13. */
+   like any prefix. Refusals: 30 to 32, 1 to 8, 12 to 14. */
 noemathu_found noemathu_uri_of_prefix(const uint8_t *bundle, size_t length, uint32_t row,
                                       const uint8_t *prefix, size_t prefix_length);
 
 /* A prefix that means a URI at a row; never the empty one. Found: a place or
-   nothing. Refusals: 30 to 32, 1 to 8, 12, 13. */
+   nothing. Refusals: 30 to 32, 1 to 8, 12 to 14. */
 noemathu_found noemathu_prefix_of_uri(const uint8_t *bundle, size_t length, uint32_t row,
                                       const uint8_t *uri, size_t uri_length);
 
 /* Whether a URI is the default namespace at a row. The empty URI is, where an
    element without prefix and URI or an empty default declaration is met first;
-   where nothing decides, no URI is. Refusals: 30 to 32, 1 to 8, 12, 13. */
+   where nothing decides, no URI is. Refusals: 30 to 32, 1 to 8, 12 to 14. */
 noemathu_tested noemathu_is_default(const uint8_t *bundle, size_t length, uint32_t row,
                                     const uint8_t *uri, size_t uri_length);
 
 /* The in-scope URI of a prefix at a row: by declarations alone, as a reader of
    the written XML sees it. Found: a place, nothing, or for `xml` and `xmlns` a
    built-in, whose URIs are NOEMATHU_XML_URI and NOEMATHU_XMLNS_URI. Refusals: 30
-   to 32, 1 to 8, 12, 13. */
+   to 32, 1 to 8, 12 to 14. */
 noemathu_found noemathu_in_scope_uri(const uint8_t *bundle, size_t length, uint32_t row,
                                      const uint8_t *prefix, size_t prefix_length);
 
 /* An in-scope prefix of a URI at a row, by declarations alone; never the empty
-   one. Found: a place, nothing, or a built-in. Refusals: 30 to 32, 1 to 8, 12, 13. */
+   one. Found: a place, nothing, or a built-in. Refusals: 30 to 32, 1 to 8, 12 to
+   14. */
 noemathu_found noemathu_in_scope_prefix(const uint8_t *bundle, size_t length, uint32_t row,
                                         const uint8_t *uri, size_t uri_length);
 
@@ -392,19 +400,20 @@ noemathu_found noemathu_in_scope_prefix(const uint8_t *bundle, size_t length, ui
    changed is the values of declarations and the prefixes of attributes, and new
    declarations stand behind the rows, new prefixes (`xml`, `NS1`) behind the
    pool. Afterwards the in-scope URI of every element's and every owned
-   attribute's prefix is its URI. Refusals: 30 to 32, 1 to 7, 12, 13, 9; 10 and 11
-   where the result is beyond the limits of a table; 33. */
+   attribute's prefix is its URI. Refusals: 30 to 32, 1 to 7, 12 to 14, 9; 10 and
+   11 where the result is beyond the limits of a table; 33. What it writes
+   passes noemathu_check. */
 noemathu_used noemathu_normalize(const uint8_t *bundle, size_t length,
                                  uint8_t *out, size_t out_size);
 
-/* Reads a bundle into a table and a pool. Refusals: 30 to 32, 1 to 7, 12, 13; 10 where
-   the table has too few whole rows, 11 where the pool is too short. */
+/* Reads a bundle into a table and a pool. Refusals: 30 to 32, 1 to 7, 12 to 14;
+   10 where the table has too few whole rows, 11 where the pool is too short. */
 noemathu_sizes noemathu_read(const uint8_t *bundle, size_t length,
                              uint32_t *table, size_t table_words, uint8_t *pool, size_t pool_size);
 
 /* Writes a table and its pool as a bundle. What noemathu_read reads and
    noemathu_write writes is the same, byte for byte and word for word. Refusals:
-   1 to 7, 12, 13, 33. */
+   1 to 7, 12 to 14, 33. */
 noemathu_used noemathu_write(const uint32_t *table, size_t table_words,
                              const uint8_t *pool, size_t pool_size, uint8_t *out, size_t out_size);
 

@@ -377,7 +377,7 @@ static void every_question(void)
 /* Inputs may overlap: a table whose pool is its own bytes, a bundle that is its own query. */
 static void overlapping_inputs(void)
 {
-    uint32_t table[10] = {3, NOEMATHU_NONE, 0, 0, 0, 0, 0, 0, 4, 8};
+    uint32_t table[10] = {3, NOEMATHU_NONE, 0, 0, 0, 0, 0, 0, 8, 8};
     uint8_t out[12 + 40 + 40];
     noemathu_used used = noemathu_write(table, 10, (const uint8_t *)table, sizeof table, out, sizeof out);
     EXPECT(is_refusal(used.refusal, 0, 0) && used.bytes == sizeof out && memcmp(out + 52, table, 40) == 0);
@@ -405,27 +405,44 @@ static void refused_tables(void)
                                 0, bytes == 0 ? 4 : bytes == 1 ? 6 : 0));
 }
 
-/* ---- which field: a table of an element and one more row, of which some words are set */
+/* ---- which field: a table of an element and one more row */
 
-static void expect_field(uint32_t type, const uint32_t *set, size_t pairs, uint32_t number, uint32_t word)
+/* What every call says of the table and pool, each lent with its end at the page behind. */
+static void expect_judged(const uint32_t *table, const uint8_t *pool, size_t bytes, uint32_t number, uint32_t word)
 {
-    static uint8_t bundle[NOEMATHU_BUNDLE_BYTES(2, 2)], out[200];
-    uint32_t table[20] = {1, NOEMATHU_NONE, 0, 0, 0, 1, 1, 1, 0, 0, type, 0, 0, 0, 0, type == 3 ? 0 : 1, 0, 0, 0, 0};
+    uint8_t bundle[NOEMATHU_BUNDLE_BYTES(2, 100)] = "NTB\1\0\0\2\0", out[400];
+    uint32_t out_table[20];
+    size_t length = NOEMATHU_BUNDLE_BYTES(2, bytes);
+    uint32_t row = number != 0;
     noemathu_used used;
-    for (size_t i = 0; i < pairs; i++)
-        table[10 + set[2 * i]] = set[2 * i + 1];
-    EXPECT(is_field_refusal(noemathu_write(table, 20, (const uint8_t *)"aU", 2, out, sizeof out).refusal, number, 1, word));
-    memcpy(bundle, "NTB\1\0\0\2\0\2\0\0", 12);
+    bundle[8] = (uint8_t)bytes;
     for (size_t i = 0; i < 80; i++)
         bundle[12 + i] = (uint8_t)(table[i / 4] >> 8 * (i % 4));
-    memcpy(bundle + 92, "aU", 2);
-    EXPECT(is_field_refusal(noemathu_check(bundle, sizeof bundle), number, 1, word));
-    EXPECT(is_field_refusal(noemathu_uri_of_prefix(bundle, sizeof bundle, 0, NULL, 0).refusal, number, 1, word));
-    EXPECT(is_field_refusal(noemathu_is_default(bundle, sizeof bundle, 0, NULL, 0).refusal, number, 1, word));
-    EXPECT(is_field_refusal(noemathu_in_scope_uri(bundle, sizeof bundle, 0, NULL, 0).refusal, number, 1, word));
-    used = noemathu_normalize(bundle, sizeof bundle, out, sizeof out);
-    EXPECT(is_field_refusal(used.refusal, number, 1, word) && is_zero(out, sizeof out));
-    EXPECT(is_field_refusal(noemathu_read(bundle, sizeof bundle, NULL, 0, NULL, 0).refusal, number, 1, word));
+    memcpy(bundle + 92, pool, bytes);
+    lend(&pool_room, pool, bytes, ENDS);
+    EXPECT(is_field_refusal(noemathu_write(table, 20, pool_room.lent, bytes, out, sizeof out).refusal, number, row, word));
+    take_back(&pool_room);
+    lend(&bundle_room, bundle, length, ENDS);
+    EXPECT(is_field_refusal(noemathu_check(bundle_room.lent, length), number, row, word));
+    EXPECT(is_field_refusal(noemathu_uri_of_prefix(bundle_room.lent, length, 0, NULL, 0).refusal, number, row, word));
+    EXPECT(is_field_refusal(noemathu_prefix_of_uri(bundle_room.lent, length, 0, NULL, 0).refusal, number, row, word));
+    EXPECT(is_field_refusal(noemathu_is_default(bundle_room.lent, length, 0, NULL, 0).refusal, number, row, word));
+    EXPECT(is_field_refusal(noemathu_in_scope_uri(bundle_room.lent, length, 0, NULL, 0).refusal, number, row, word));
+    EXPECT(is_field_refusal(noemathu_in_scope_prefix(bundle_room.lent, length, 0, NULL, 0).refusal, number, row, word));
+    used = noemathu_normalize(bundle_room.lent, length, out, sizeof out);
+    EXPECT(is_field_refusal(used.refusal, number, row, word));
+    EXPECT(number ? is_zero(out, sizeof out) : is_refusal(noemathu_check(out, used.bytes), 0, 0));
+    EXPECT(is_field_refusal(noemathu_read(bundle_room.lent, length, out_table, 20, out, sizeof out).refusal, number, row, word));
+    take_back(&bundle_room);
+}
+
+/* The second row is of this type, and some of its words are set. */
+static void expect_field(uint32_t type, const uint32_t *set, size_t pairs, uint32_t number, uint32_t word)
+{
+    uint32_t table[20] = {1, NOEMATHU_NONE, 0, 0, 0, 1, 1, 1, 0, 0, type, 0, 0, 0, 0, type == 3 ? 0 : 1, 0, 0, 0, 0};
+    for (size_t i = 0; i < pairs; i++)
+        table[10 + set[2 * i]] = set[2 * i + 1];
+    expect_judged(table, (const uint8_t *)"aU", 2, number, word);
 }
 
 static void fields(void)
@@ -454,6 +471,94 @@ static void fields(void)
     expect_field(NOEMATHU_TEXT, (const uint32_t[]){2, 0, 3, 1, 8, 1, 9, 0}, 4, 12, 8);
     expect_field(NOEMATHU_TEXT, (const uint32_t[]){4, 0, 5, 1, 6, 0, 7, 1}, 4, 13, 4);
     EXPECT(strcmp(noemathu_field(6), "namespace URI") == 0 && strcmp(noemathu_field(0), noemathu_field(5)) == 0);
+}
+
+/* ---- UTF-8 */
+
+/* The bytes as each of an attribute's fields, behind up to nine letters, with the pool ending there and going on with bytes
+   that would complete a sequence. A byte below 128 that is no letter is well-formed, but no name may hold it. */
+static void expect_utf8(const uint8_t *bytes, size_t length, bool well_formed)
+{
+    static const uint32_t words[] = {2, 4, 6, 8};
+    for (size_t i = 0; i < 4; i++)
+        for (size_t letters = 0; letters < 10; letters++)
+            for (size_t more = 0; more <= 3; more += 3) {
+                uint8_t pool[40] = "aUabcdefghi";
+                uint32_t w = words[i];
+                uint32_t table[20] = {1, NOEMATHU_NONE, 0, 0, 0, 1, 1, 1, 0, 0, 2, 0, 0, 0, 0, 1, 1, 1, 0, 0};
+                bool bad_name = w <= 4 && bytes[0] < 128;
+                memcpy(pool + 2 + letters, bytes, length);
+                memset(pool + 2 + letters + length, 0x80, more);
+                table[10 + w] = 2;
+                table[11 + w] = (uint32_t)(letters + length);
+                expect_judged(table, pool, 2 + letters + length + more, well_formed ? bad_name ? 4 : 0 : 14, well_formed ? 0 : w);
+            }
+}
+
+struct bytes {
+    uint8_t length, bytes[4];
+};
+
+/* The first and the last sequence of each line of RFC 3629's table. */
+static const struct bytes lines[] = {
+    {1, {0x00}}, {1, {0x7f}}, {2, {0xc2, 0x80}}, {2, {0xdf, 0xbf}},
+    {3, {0xe0, 0xa0, 0x80}}, {3, {0xe0, 0xbf, 0xbf}}, {3, {0xe1, 0x80, 0x80}}, {3, {0xec, 0xbf, 0xbf}},
+    {3, {0xed, 0x80, 0x80}}, {3, {0xed, 0x9f, 0xbf}}, {3, {0xee, 0x80, 0x80}}, {3, {0xef, 0xbf, 0xbf}},
+    {4, {0xf0, 0x90, 0x80, 0x80}}, {4, {0xf0, 0xbf, 0xbf, 0xbf}}, {4, {0xf1, 0x80, 0x80, 0x80}},
+    {4, {0xf3, 0xbf, 0xbf, 0xbf}}, {4, {0xf4, 0x80, 0x80, 0x80}}, {4, {0xf4, 0x8f, 0xbf, 0xbf}}};
+
+/* Just outside of a line: forms of two, three and four bytes that are too long, surrogates, above U+10FFFF. */
+static const struct bytes outside[] = {
+    {2, {0xc0, 0x80}}, {2, {0xc1, 0xbf}}, {3, {0xe0, 0x80, 0x80}}, {3, {0xe0, 0x9f, 0xbf}},
+    {4, {0xf0, 0x80, 0x80, 0x80}}, {4, {0xf0, 0x8f, 0xbf, 0xbf}}, {3, {0xed, 0xa0, 0x80}}, {3, {0xed, 0xbf, 0xbf}},
+    {4, {0xf4, 0x90, 0x80, 0x80}}, {4, {0xf4, 0xbf, 0xbf, 0xbf}}};
+
+static void utf8(void)
+{
+    for (size_t i = 0; i < sizeof lines / sizeof *lines; i++) {
+        uint8_t bytes[5] = {0};
+        memcpy(bytes, lines[i].bytes, 4);
+        expect_utf8(bytes, lines[i].length, true);
+        /* cut short, at the end and before a letter; a letter or nothing that follows in the place of each byte but the first */
+        for (size_t length = 1; length < lines[i].length; length++) {
+            expect_utf8(bytes, length, false);
+            bytes[length] = 'a';
+            expect_utf8(bytes, lines[i].length, false);
+            bytes[length] = 0xc2;
+            expect_utf8(bytes, lines[i].length, false);
+            bytes[length] = lines[i].bytes[length];
+        }
+        /* one that follows too many */
+        bytes[lines[i].length] = 0x80;
+        if (lines[i].length > 1)
+            expect_utf8(bytes, lines[i].length + 1u, false);
+    }
+    for (size_t i = 0; i < sizeof outside / sizeof *outside; i++)
+        expect_utf8(outside[i].bytes, outside[i].length, false);
+    /* the bytes that start nothing, alone and before what could follow */
+    for (unsigned first = 0x80; first < 256; first++)
+        if (first < 0xc2 || first > 0xf4) {
+            const uint8_t bytes[4] = {(uint8_t)first, 0x80, 0x80, 0x80};
+            for (size_t length = 1; length <= 4; length += 3)
+                expect_utf8(bytes, length, false);
+        }
+}
+
+/* Every code point by itself, in the form that its number of bits asks for: a text of it is accepted exactly if it is no
+   surrogate. */
+static void every_code_point(void)
+{
+    for (uint32_t c = 0; c < 0x110000; c++) {
+        uint8_t bytes[4], out[60];
+        uint32_t length = c < 0x80 ? 1 : c < 0x800 ? 2 : c < 0x10000 ? 3 : 4;
+        for (uint32_t k = 0; k < length; k++)
+            bytes[k] = (uint8_t)(0x80 | (c >> 6 * (length - 1 - k) & 0x3f));
+        bytes[0] = (uint8_t)(length == 1 ? c : bytes[0] | 0xf0u << (4 - length));
+        const uint32_t table[10] = {3, NOEMATHU_NONE, 0, 0, 0, 0, 0, 0, 0, length};
+        bool surrogate = c >= 0xd800 && c < 0xe000;
+        EXPECT(is_field_refusal(noemathu_write(table, 10, bytes, length, out, sizeof out).refusal, surrogate ? 14 : 0, 0,
+                                surrogate ? 8 : 0));
+    }
 }
 
 /* ---- the largest */
@@ -551,7 +656,7 @@ static void beyond_the_limits(void)
 
 static void helpers(void)
 {
-    const uint32_t numbers[] = {0, 1, 2, 3, 4, 5, 6, 7, 8, 9, 10, 11, 12, 13, 30, 31, 32, 33, 14};
+    const uint32_t numbers[] = {0, 1, 2, 3, 4, 5, 6, 7, 8, 9, 10, 11, 12, 13, 14, 30, 31, 32, 33, 15};
     for (size_t i = 0; i < sizeof numbers / sizeof *numbers; i++)
         for (size_t k = 0; k < i; k++)
             EXPECT(strcmp(noemathu_text(numbers[i]), noemathu_text(numbers[k])) != 0);
@@ -669,6 +774,8 @@ int main(void)
     overlapping_inputs();
     refused_tables();
     fields();
+    utf8();
+    every_code_point();
     largest();
     beyond_the_limits();
     helpers();

@@ -88,6 +88,8 @@ def empty_in_first_pass():
             yield 3, word, reading.past_pool(tree, field)
             yield 12, word, reading.offset_alone(field)
             yield 13, word, reading.full_but_must_be_empty(row, word, field)
+        for word, field in row.worded():
+            yield 14, word, reading.malformed(field)
     reading.field_tries = field_tries
 
 
@@ -100,6 +102,8 @@ def pool_before_offsets():
             yield 12, word, reading.offset_alone(field)
         for word, field in row.worded():
             yield 13, word, reading.full_but_must_be_empty(row, word, field)
+        for word, field in row.worded():
+            yield 14, word, reading.malformed(field)
     reading.field_tries = field_tries
 
 
@@ -112,6 +116,41 @@ def fields_after_names():
         yield from (one for one in tried if one[0] in (2, 3, 12, 4))
         yield from (one for one in tried if one[0] not in (2, 3, 12, 4))
     reading.tries = tries
+
+
+def encoding_after_names():
+    """A row is tried for 14 after 4."""
+    right = reading.tries
+
+    def tries(tree, row):
+        tried = list(right(tree, row))
+        yield from (one for one in tried if one[0] in (2, 3, 12, 13, 4))
+        yield from (one for one in tried if one[0] not in (2, 3, 12, 13, 4))
+    reading.tries = tries
+
+
+def encoding_with_empty():
+    """A field is tried for 14 before the next is tried for 13."""
+    def field_tries(tree, row):
+        for word, field in row.worded():
+            yield 3, word, reading.past_pool(tree, field)
+            yield 12, word, reading.offset_alone(field)
+        for word, field in row.worded():
+            yield 13, word, reading.full_but_must_be_empty(row, word, field)
+            yield 14, word, reading.malformed(field)
+    reading.field_tries = field_tries
+
+
+def surrogates_accepted():
+    """A surrogate counts as a scalar value."""
+    right = reading.malformed
+    reading.malformed = lambda field: right(field) and b"\xed" not in field.text
+
+
+def values_not_decoded():
+    """Values may hold any bytes."""
+    right = reading.field_tries
+    reading.field_tries = lambda tree, row: (one for one in right(tree, row) if one[:2] != (14, 8))
 
 
 def length_word():
@@ -232,6 +271,7 @@ def rest_kept():
 FAULTS = {fault.__name__: fault for fault in (
     shadowed_prefix, shadowed_own_prefix, element_by_uri_lookup, default_serves_attribute, bound_prefix_declared,
     level1_name_counts, names_by_offset, fields_before_structure, offset_before_pool, empty_in_first_pass,
-    pool_before_offsets, fields_after_names, length_word, last_field, bytes_before_rows, shared_bytes, big_endian,
-    zero_byte_not_seen, bytes_after, version_before_mark, cut_is_lengths, limits_by_lengths, room_before_limits,
-    read_bytes_before_rows, rest_kept)}
+    pool_before_offsets, fields_after_names, encoding_after_names, encoding_with_empty, surrogates_accepted,
+    values_not_decoded, length_word, last_field, bytes_before_rows, shared_bytes, big_endian, zero_byte_not_seen,
+    bytes_after, version_before_mark, cut_is_lengths, limits_by_lengths, room_before_limits, read_bytes_before_rows,
+    rest_kept)}

@@ -16,8 +16,8 @@ XMLNS_URI = b"http://www.w3.org/2000/xmlns/"
 
 # Mostly of different lengths, since an answer may be no more than a length. Some are parts of others.
 PREFIXES = (b"p", b"qq", b"rstu", b"NS1", b"NS2", b"NS10x", b"\xc3\xa9t\xc3\xa9ou")
-URIS = (b"U", b"u:", b"urn", b"urn:", b"urn:w", b"http://e/", b"http://e/x", b"\x00\xff 7 bytes")
-NAMES = (b"a", b"id", b"lang", b"xml", b"xmlns", b"_b.-1", b"\x80\xff")
+URIS = (b"U", b"u:", b"urn", b"urn:", b"urn:w", b"http://e/", b"http://e/x", b"\x00\xc3\xbf 7 bytes")
+NAMES = (b"a", b"id", b"lang", b"xml", b"xmlns", b"_b.-1", b"\xe2\x82\xac\xf0\x90\x80\x80")
 WHOLE_NAMES = (b"p:a", b":", b"a", b"xmlns", b"xmlns:p", b"id")
 
 
@@ -226,13 +226,29 @@ def damage_fields(random, table, pool, row):
         table[row] = random.choice((1, 2, 3, 13, 257, 258))
 
 
+# Sequences of UTF-8 at the boundaries of their kind, and bytes that are none.
+SEQUENCES = tuple(map(bytes.fromhex, (
+    "7f", "c280", "dfbf", "e0a080", "ed9fbf", "ee8080", "efbfbf", "f0908080", "f48fbfbf", "c3a9e282acf09f9880",
+    "80", "bf", "c1bf", "c2", "e09fbf", "e0a0", "eda080", "edbfbf", "f08fbfbf", "f09080", "f4908080", "f5808080", "ff",
+    "c28080", "e282")))
+
+
+def damage_encoding(random, table, pool, row):
+    """One field of the row or two with other bytes at the end of the pool: often malformed, and sometimes cut short where
+    the pool goes on."""
+    for word in random.sample((2, 4, 6, 8), random.choice((1, 2, 2))):
+        text = random.choice((b"", b"a", b"abcdefgh")) + b"".join(random.choices(SEQUENCES, k=random.choice((1, 1, 2))))
+        table[row + word:row + word + 2] = len(pool), len(text) - (random.random() < 0.2 and len(text) > 1)
+        pool += text
+
+
 def damaged(random):
     """A tree with one thing wrong, or two."""
     table, pool = random.choice((typical, grafted))(random)
     table, pool = list(table), bytearray(pool)
     for _ in range(random.choice((1, 1, 2))):
         rows = len(table) // 10
-        how = random.randint(0, 8)
+        how = random.randint(0, 9)
         if how == 0:
             del table[len(table) - random.randint(0, 9):]
         elif how == 1:
@@ -256,6 +272,8 @@ def damaged(random):
                 table[row:row + 10], table[other:other + 10] = table[other:other + 10], table[row:row + 10]
             elif how == 8:
                 damage_fields(random, table, pool, row)
+            elif how == 9:
+                damage_encoding(random, table, pool, row)
             elif how == 6:
                 table[row] = random.choice((0, 1, 2, 3, 5, 9, 10, 11, 13, 14, 256, 257, 258, 259, NONE))
             else:
@@ -267,7 +285,7 @@ def damaged(random):
 
 
 def random_words(random):
-    pool = bytes(random.choices(b"aabU:-1\x00\x80", k=random.randint(0, 6)))
+    pool = b"".join(random.choices((b"a", b"a", b"b", b"U", b":", b"-", b"1", b"\x00", b"\xc3\xa9"), k=random.randint(0, 6)))
     table = []
     for row in range(random.randint(0, 4)):
         table += [random.choice((1, 1, 2, 13, 5, 9, 257, 258, random.randint(0, 14))),

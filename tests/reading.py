@@ -184,13 +184,24 @@ def must_be_empty(type):
     return words
 
 
+def malformed(field):
+    """14: the bytes are not UTF-8, by Python's own decoder."""
+    try:
+        field.text.decode("utf-8", "strict")
+    except UnicodeDecodeError:
+        return True
+    return False
+
+
 def field_tries(tree, row):
-    """The fields one after the other for 3 and 12, and once more, if all pass, for 13."""
+    """The fields one after the other for 3 and 12, once more, if all pass, for 13, and once more for 14."""
     for word, field in row.worded():
         yield 3, word, past_pool(tree, field)
         yield 12, word, offset_alone(field)
     for word, field in row.worded():
         yield 13, word, full_but_must_be_empty(row, word, field)
+    for word, field in row.worded():
+        yield 14, word, malformed(field)
 
 
 LETTERS = b"ABCDEFGHIJKLMNOPQRSTUVWXYZabcdefghijklmnopqrstuvwxyz"
