@@ -28,7 +28,7 @@ pub fn lookup_elements(table: &[u32], row: Row, path: &mut [u32]) -> usize
 }
 
 // The nearest ancestor element.
-pub fn ancestor(table: &[u32], row: Row) -> Row
+fn ancestor(table: &[u32], row: Row) -> Row
     requires { ⌜ row .0 < rowCount (now table) ⌝ }
     ensures { λ r. ⌜ ((pool : List ℕ) → r .0 ≡ rowOr (ancestorElement (nodes (now (table .entry)) pool) (row .0))) ⌝ }
 {

@@ -1,166 +1,211 @@
 -- The pass over the rows: what one row is refused for, and what the rows that are left are.
 -- Assumes nothing.
-use Prim.Native.Nat.{ℕ, _+_, _≤_, _<_}
+use Prim.Native.Nat.{ℕ, _+_, _*_, _≤_, _<_}
 use mathlib.Core.Path.{_≡_, refl, sym, ap, _∙_}
-use mathlib.Core.Bool.{Bool, true, false}
-use mathlib.Core.List.{List, [], _∷_}
+use mathlib.Core.Bool.{true, false}
+use mathlib.Core.List.{List, [], _∷_, _++_}
 use mathlib.Core.Option.{Option, none, some}
 use native.Mathlib.Omega.{arith}
+use borrow.Author.Tests.{eqb-true, eqb-false}
+use lib.Dec.{eqb}
 use lib.ListN.{length, replicate, length-replicate, getD-replicate}
-use Rattle.rules.specs.Table.{MOST-ROWS, NONE, nodeAt, nodes, rowCount, isElement}
-use Rattle.rules.specs.Refusals.{refusedIf, firstRefusal, lowestRefusal, badSize, badStructure, fieldsRefusal, badNames, badNamespace, badDeclaration, faults, conflicts, rowRefusal, verdict, checkRefusal, checked}
+use Rattle.rules.specs.Table.{MOST-ROWS, MOST-BYTES, NONE, Node, nodeAt, nodes, node, rowCount, isElement}
+use Rattle.rules.specs.Refusals.{refusedIf, firstRefusal, badSize, badStructure, fieldsRefusal, encodingsRefusal, badNames, badNamespace, badDeclaration, faults, conflicts, rowRefusal, verdict, checkRefusal, checked}
 use Rattle.rules.specs.declared.Refusal.{Refusal}
 use Rattle.rules.specs.declared.Checked.{Checked}
+use Rattle.rules.proofs.Lists.{by-cases, true-not-false}
 use Rattle.rules.proofs.Table.{node-nodes}
-use Rattle.rules.proofs.Refusals.{not-refused, all-none, verdict-accepted, verdict-refused, verdict-unless, first-alone, first-assoc, lowest-next, refusalFrom, from-start, from-first, from-refused, from-end}
+use Rattle.rules.proofs.Refusals.{not-refused, all-none, verdict-accepted, verdict-refused, first-alone, first-append, refusalFrom, from-start, from-refused, from-next, from-end}
 use Rattle.rules.proofs.Accepted.{structure-falls}
-use Rattle.tree.specs.Chains.{lastBefore, isOwned, Latest, ParentBefore, hasDouble}
-use Rattle.encodings.specs.Encodings.{encodingsRefusalAt, unlessMalformed}
-use Rattle.checker.specs.Pass.{refusalAt, rowsRefusal, layoutRefusal, namesRefusal, Seen}
+use Rattle.notes.specs.Notes.{NOTES, LATEST, noteAt}
+use Rattle.numbers.specs.Noted.{NodeNumbered, Numbered}
+use Rattle.dictionary.specs.Dictionary.{lastOf, spelling, Dictionary}
+use Rattle.dictionary.proofs.Laws.{spelled, cleared, none-given}
+use Rattle.row_names.specs.RowNames.{namesRefusal, HasRoom, RowNumbered}
+use Rattle.doubles.specs.Doubles.{BUCKETS, Entered, hasDouble}
+use Rattle.doubles.proofs.Adding.{begun, renumbered}
+use Rattle.tree.specs.Children.{lastBefore, Latest, ParentBefore}
+use Rattle.checker.specs.Lent.{dictionaryWords, Lent, Named}
+use Rattle.checker.specs.Pass.{refusalAt, rowsRefusal, placeRefusal}
 
--- What a row is tried for, before 14, for 14 and after it.
-three : (s f e : Option Refusal) (later : List (Option Refusal)) → firstRefusal (s ∷ f ∷ e ∷ later) ≡ firstRefusal (firstRefusal (s ∷ f ∷ []) ∷ e ∷ firstRefusal later ∷ [])
-three none none none later = first-alone (firstRefusal later)
-three none none (some x) later = refl
-three none (some x) e later = refl
-three (some x) f e later = refl
-
-first-two : (o : Option Refusal) → o ≡ firstRefusal (o ∷ none ∷ [])
-first-two none = refl
-first-two (some x) = refl
-
+-- What row r is refused for: by its place, for its names, as a double.
 module _ (table pool : List ℕ) (r : ℕ) (h : r < rowCount table) where
-  row-parts : refusalAt table pool r ≡ firstRefusal (layoutRefusal table pool r ∷ encodingsRefusalAt table pool r ∷ namesRefusal table pool r ∷ [])
-  unfolding rowRefusal faults
-  row-parts =
-      rw (node-nodes table pool r h)
-      (three (refusedIf (badStructure (nodes table pool) r) (Refusal.Structure (record { 0 = r }))) (fieldsRefusal (length pool) r (nodeAt table pool r)) (encodingsRefusalAt table pool r)
-      (refusedIf (badNames (nodeAt table pool r)) (Refusal.Names (record { 0 = r })) ∷ refusedIf (badNamespace (nodeAt table pool r)) (Refusal.Namespace (record { 0 = r })) ∷ conflicts (nodes table pool) r))
+  pub place-structure : badStructure (nodes table pool) r ≡ true → Checked.Refused (Refusal.Structure (record { 0 = r })) ≡ verdict (placeRefusal table pool r)
+  place-structure s = rw s
 
-  -- Before 14.
-  pub layout-structure : badStructure (nodes table pool) r ≡ true → Checked.Refused (Refusal.Structure (record { 0 = r })) ≡ verdict (layoutRefusal table pool r)
-  layout-structure s = rw s refl
+  pub place-fields : badStructure (nodes table pool) r ≡ false → {drawn : Checked} → drawn ≡ verdict (fieldsRefusal (length pool) r (nodeAt table pool r)) → drawn ≡ verdict (placeRefusal table pool r)
+  place-fields s d = rw s (d ∙ ap verdict (first-alone (fieldsRefusal (length pool) r (nodeAt table pool r))))
 
-  pub layout-fields : badStructure (nodes table pool) r ≡ false → {drawn : Checked} → drawn ≡ verdict (fieldsRefusal (length pool) r (nodeAt table pool r)) → drawn ≡ verdict (layoutRefusal table pool r)
-  layout-fields s d = rw s (d ∙ ap verdict (first-alone (fieldsRefusal (length pool) r (nodeAt table pool r))))
+  abbrev structure : Option Refusal
+  structure = refusedIf (badStructure (nodes table pool) r) (Refusal.Structure (record { 0 = r }))
 
-  layout-before : layoutRefusal table pool r ≡ none → ParentBefore table r
-  layout-before e =
-      let o = all-none (refusedIf (badStructure (nodes table pool) r) (Refusal.Structure (record { 0 = r })) ∷ fieldsRefusal (length pool) r (nodeAt table pool r) ∷ []) e in
-      let s = not-refused (badStructure (nodes table pool) r) (Refusal.Structure (record { 0 = r })) (o .0) in
-      rw (node-nodes table pool r h) at (structure-falls (nodes table pool) r s)
+  abbrev double : Option Refusal
+  double = firstRefusal (refusedIf (hasDouble table pool r) (Refusal.Double (record { 0 = r })) ∷ [])
 
-  -- After it.
-  pub refused-names : badNames (nodeAt table pool r) ≡ true → Checked.Refused (Refusal.Names (record { 0 = r })) ≡ verdict (namesRefusal table pool r)
-  refused-names n = rw n refl
+  parts : refusalAt table pool r ≡ firstRefusal (placeRefusal table pool r ∷ firstRefusal (namesRefusal r (nodeAt table pool r) ∷ double ∷ []) ∷ [])
+  unfolding rowRefusal faults conflicts
+  parts =
+      let n = node (nodes table pool) r in
+      let place : List (Option Refusal) = structure ∷ fieldsRefusal (length pool) r n ∷ [] in
+      let names : List (Option Refusal) =
+      encodingsRefusal r n ∷ refusedIf (badNames n) (Refusal.Names (record { 0 = r })) ∷ refusedIf (badNamespace n) (Refusal.Namespace (record { 0 = r }))
+      ∷ refusedIf (badDeclaration n) (Refusal.Declaration (record { 0 = r })) ∷ [] in
+      let last : List (Option Refusal) = refusedIf (hasDouble table pool r) (Refusal.Double (record { 0 = r })) ∷ [] in
+      first-append place (names ++ last)
+      ∙ ap (λ (rest : Option Refusal). firstRefusal (firstRefusal place ∷ rest ∷ [])) (first-append names last)
+      ∙ ap (λ (m : Node). firstRefusal (firstRefusal (structure ∷ fieldsRefusal (length pool) r m ∷ []) ∷ firstRefusal (namesRefusal r m ∷ double ∷ []) ∷ [])) (node-nodes table pool r h)
 
-  module _ (n : badNames (nodeAt table pool r) ≡ false) where
-    pub refused-namespace : badNamespace (nodeAt table pool r) ≡ true → Checked.Refused (Refusal.Namespace (record { 0 = r })) ≡ verdict (namesRefusal table pool r)
-    refused-namespace b = rw (n, b) refl
+  module _ {place : Checked} (p : place ≡ verdict (placeRefusal table pool r)) where
+    pub refused-place : (x : Refusal) → place ≡ Checked.Refused x → refusalAt table pool r ≡ some x
+    refused-place x e = let f = verdict-refused (placeRefusal table pool r) x (sym p ∙ e) in parts ∙ rw f
 
-    module _ (b : badNamespace (nodeAt table pool r) ≡ false) where
-      pub refused-declaration : badDeclaration (nodeAt table pool r) ≡ true → Checked.Refused (Refusal.Declaration (record { 0 = r })) ≡ verdict (namesRefusal table pool r)
-      unfolding conflicts
-      refused-declaration d = rw (n, b, node-nodes table pool r h, d) refl
+    module _ (a : place ≡ Checked.Accepted) where
+      no-place : placeRefusal table pool r ≡ none
+      no-place = verdict-accepted (placeRefusal table pool r) (sym p ∙ a)
 
-      module _ (d : badDeclaration (nodeAt table pool r) ≡ false) where
-        pub refused-double : hasDouble table pool r ≡ true → Checked.Refused (Refusal.Double (record { 0 = r })) ≡ verdict (namesRefusal table pool r)
-        unfolding conflicts
-        refused-double t = rw (n, b, t, node-nodes table pool r h, d) refl
+      pub passed-fields : fieldsRefusal (length pool) r (nodeAt table pool r) ≡ none
+      passed-fields = all-none (structure ∷ fieldsRefusal (length pool) r (nodeAt table pool r) ∷ []) no-place .1 .0
 
-        pub refused-not : hasDouble table pool r ≡ false → Checked.Accepted ≡ verdict (namesRefusal table pool r)
-        unfolding conflicts
-        refused-not t = rw (n, b, t, node-nodes table pool r h, d) refl
+      pub parent-before : ParentBefore table r
+      parent-before =
+          rw (node-nodes table pool r h) at
+          (structure-falls (nodes table pool) r (not-refused _ _ (all-none (structure ∷ fieldsRefusal (length pool) r (nodeAt table pool r) ∷ []) no-place .0)))
 
--- What the rows before r draw for 14, and then what the rows from r on draw for anything.
-abbrev split : List ℕ → List ℕ → ℕ → Option Refusal
-split table pool r =
-    firstRefusal
-    (lowestRefusal (encodingsRefusalAt table pool) r
-    ∷ refusalFrom (refusalAt table pool) (rowCount table) r
-    ∷ [])
+      module _ {names : Checked} (n : names ≡ verdict (namesRefusal r (nodeAt table pool r))) where
+        pub refused-names : (x : Refusal) → names ≡ Checked.Refused x → refusalAt table pool r ≡ some x
+        refused-names x e = let f = verdict-refused (namesRefusal r (nodeAt table pool r)) x (sym n ∙ e) in parts ∙ rw (no-place, f)
 
--- At row r: what the arrays hold, and that the rows before r draw nothing but 14.
-pub record Going (table pool children latest previous : List ℕ) (r : ℕ) : Type 0 where
+        module _ (b : names ≡ Checked.Accepted) where
+          no-names : namesRefusal r (nodeAt table pool r) ≡ none
+          no-names = verdict-accepted (namesRefusal r (nodeAt table pool r)) (sym n ∙ b)
+
+          pub refused-double : hasDouble table pool r ≡ true → refusalAt table pool r ≡ some (Refusal.Double (record { 0 = r }))
+          refused-double d = parts ∙ rw (no-place, no-names, d)
+
+          pub refused-none : hasDouble table pool r ≡ false → refusalAt table pool r ≡ none
+          refused-none d = parts ∙ rw (no-place, no-names, d)
+
+-- At row r: what the arrays hold, and that the rows from r on decide.
+pub record Going (table pool dictionary₀ notes₀ dictionary notes children chains : List ℕ) (r : ℕ) : Type 0 where
   pub bound : r ≤ rowCount table
-  pub seen : Seen table children latest previous r
-  pub rest : split table pool r ≡ rowsRefusal table pool
+  pub elements : Latest isElement table children r
+  pub owned : Entered table notes chains r
+  pub right : Dictionary dictionary pool
+  pub few : lastOf dictionary ≤ 3 * r
+  pub rows : (q : ℕ) → q < r → NodeNumbered notes (spelling dictionary pool) (lastOf dictionary) q (nodeAt table pool q)
+  pub kept : (q k : ℕ) → LATEST ≤ k → k < NOTES → noteAt notes q k ≡ noteAt notes₀ q k
+  pub rest : refusalFrom (refusalAt table pool) (rowCount table) r ≡ rowsRefusal table pool
+  pub words : length dictionary ≡ length dictionary₀
+  pub records : length notes ≡ length notes₀
+  pub links : length chains ≡ BUCKETS + MOST-ROWS + 1
 
--- Before the first row the arrays hold nothing.
-latest-none : (kind : ℕ → Bool) (table : List ℕ) → rowCount table ≤ MOST-ROWS → Latest kind table (replicate MOST-ROWS NONE) 0
+-- The arrays are enough for the table.
+pub record Enough (table pool dictionary notes : List ℕ) : Type 0 where
+  pub rows : rowCount table ≤ MOST-ROWS
+  pub bytes : length pool ≤ MOST-BYTES
+  pub words : dictionaryWords (rowCount table) ≤ length dictionary
+  pub records : NOTES * rowCount table ≤ length notes
+
+pub enough : (table pool dictionary notes : List ℕ) → rowCount table ≤ MOST-ROWS → length pool ≤ MOST-BYTES → Lent table dictionary notes → Enough table pool dictionary notes
+enough table pool dictionary notes rows bytes l = record { rows = rows; bytes = bytes; words = l .words rows; records = l .records rows }
+
+-- Before the first row.
+pub going-start :
+    (table pool dictionary notes : List ℕ) → Enough table pool dictionary notes → dictionary ≡ replicate (length dictionary) 0
+    → Going table pool dictionary notes dictionary notes (replicate MOST-ROWS NONE) (replicate (BUCKETS + MOST-ROWS + 1) 0) 0
 unfolding lastBefore
-latest-none kind table b =
-    record { few = b; size = length-replicate {A = ℕ} MOST-ROWS NONE; holds = λ p h. getD-replicate {A = ℕ} MOST-ROWS p NONE 0 (omega arith) }
+going-start table pool dictionary notes e zero =
+    let rows = e .rows in
+    let words = e .words in
+    record {
+      bound = omega arith;
+      elements = record { few = rows; size = length-replicate {A = ℕ} MOST-ROWS NONE; holds = λ p h. getD-replicate {A = ℕ} MOST-ROWS p NONE 0 (omega arith) };
+      owned = begun table notes (BUCKETS + MOST-ROWS + 1) rows (e .records) (omega arith);
+      right = rw zero (cleared (length dictionary) pool (omega arith));
+      few = rw zero (none-given (length dictionary));
+      rows = λ q h. absurd (omega arith);
+      kept = λ q k l h. refl;
+      rest = from-start (refusalAt table pool) (rowCount table);
+      words = refl;
+      records = refl;
+      links = length-replicate {A = ℕ} (BUCKETS + MOST-ROWS + 1) 0;
+    }
 
-module _ (table pool : List ℕ) where
-  pub going-start : rowCount table ≤ MOST-ROWS → Going table pool (replicate MOST-ROWS NONE) (replicate MOST-ROWS NONE) (replicate MOST-ROWS NONE) 0
-  going-start b =
-      record {
-        bound = omega arith;
-        seen = record {
-          elements = latest-none isElement table b;
-          owned = record { heads = latest-none isOwned table b; size = length-replicate {A = ℕ} MOST-ROWS NONE; links = λ p j h i t. absurd (omega arith) };
-        };
-        rest = sym (first-alone (refusalFrom (refusalAt table pool) (rowCount table) 0)) ∙ from-start (refusalAt table pool) (rowCount table);
-      }
+module _ {table pool dictionary₀ notes₀ dictionary notes children chains : List ℕ} {r : ℕ} (g : Going table pool dictionary₀ notes₀ dictionary notes children chains r) where
+  -- no row is left
+  pub going-end : rowCount table ≤ r → Checked.Accepted ≡ verdict (rowsRefusal table pool)
+  going-end h = ap verdict (sym (from-end (refusalAt table pool) (rowCount table) r h) ∙ g .rest)
 
-  module _ {children latest previous : List ℕ} {r : ℕ} (g : Going table pool children latest previous r) where
-    -- the rows before r draw 14, or what was drawn stands, which the rows from r on are refused for
-    stands : (o : Option Refusal) → refusalFrom (refusalAt table pool) (rowCount table) r ≡ o → {drawn : Checked} → drawn ≡ unlessMalformed table pool r (verdict o) → drawn ≡ verdict (rowsRefusal table pool)
-    stands o e d =
-        d
-        ∙ verdict-unless (lowestRefusal (encodingsRefusalAt table pool) r) o
-        ∙ ap verdict (ap (λ (p : Option Refusal). firstRefusal (lowestRefusal (encodingsRefusalAt table pool) r ∷ p ∷ [])) (sym e) ∙ g .rest)
+  pub going-named : rowCount table ≤ r → Named table pool dictionary notes
+  going-named h =
+      let bound = g .bound in
+      let last : r ≡ rowCount table = omega arith in
+      record { right = g .right; few = rw (← last) (g .few); numbered = record { spelled = spelled (g .right); rows = λ q i. g .rows q (omega arith) } }
 
-    -- no row is left
-    pub going-end : rowCount table ≤ r → {drawn : Checked} → drawn ≡ unlessMalformed table pool r Checked.Accepted → drawn ≡ verdict (rowsRefusal table pool)
-    going-end h d = stands none (from-end (refusalAt table pool) (rowCount table) r h) d
+  module _ (h : r < rowCount table) where
+    pub going-refused : (x : Refusal) → refusalAt table pool r ≡ some x → Checked.Refused x ≡ verdict (rowsRefusal table pool)
+    going-refused x e = ap verdict (sym (from-refused (refusalAt table pool) (rowCount table) r h x e) ∙ g .rest)
 
-    module _ (h : r < rowCount table) {layout : Checked} (l : layout ≡ verdict (layoutRefusal table pool r)) where
-      pub going-layout : (x : Refusal) → layout ≡ Checked.Refused x → {drawn : Checked} → drawn ≡ unlessMalformed table pool r layout → drawn ≡ verdict (rowsRefusal table pool)
-      going-layout x e d =
-          let some-x = verdict-refused (layoutRefusal table pool r) x (sym l ∙ e) in
-          stands (some x) (from-refused (refusalAt table pool) (rowCount table) r h x (row-parts table pool r h ∙ rw some-x refl)) (d ∙ ap (unlessMalformed table pool r) e)
+    pub going-room : Enough table pool dictionary₀ notes₀ → HasRoom dictionary 3
+    going-room e =
+        let few = g .few in
+        let rows = e .rows in
+        let words = e .words in
+        let same = g .words in
+        record { words = omega arith; small = omega arith }
 
-      module _ (a : layout ≡ Checked.Accepted) where
-        passed : layoutRefusal table pool r ≡ none
-        passed = verdict-accepted (layoutRefusal table pool r) (sym l ∙ a)
+    -- The names of row r have their numbers.
+    module _ {after noted : List ℕ} (n : RowNumbered dictionary notes after noted pool r (nodeAt table pool r)) (l : length noted ≡ length notes) where
+      same-notes : (q k : ℕ) → q < r → k < NOTES → noteAt noted q k ≡ noteAt notes q k
+      same-notes q k i j = n .others q k j (λ e m. omega arith)
 
-        pub going-before : ParentBefore table r
-        going-before = layout-before table pool r h passed
+      same-row : (q : ℕ) → q < r → NodeNumbered notes (spelling dictionary pool) (lastOf dictionary) q (nodeAt table pool q) → NodeNumbered noted (spelling after pool) (lastOf after) q (nodeAt table pool q)
+      same-row q i o =
+          record {
+            prefix = rw (same-notes q 0 i (omega arith)) (n .kept _ _ (o .prefix));
+            local = rw (same-notes q 1 i (omega arith)) (n .kept _ _ (o .local));
+            uri = rw (same-notes q 2 i (omega arith)) (n .kept _ _ (o .uri));
+            value = rw (same-notes q 3 i (omega arith)) (n .kept _ _ (o .value));
+          }
 
-        -- 14 of row r comes next
-        next : (o : Option Refusal) → refusalFrom (refusalAt table pool) (rowCount table) r ≡ firstRefusal (encodingsRefusalAt table pool r ∷ o ∷ []) → firstRefusal (lowestRefusal (encodingsRefusalAt table pool) (r + 1) ∷ o ∷ []) ≡ rowsRefusal table pool
-        next o e =
-            ap (λ (p : Option Refusal). firstRefusal (p ∷ o ∷ [])) (lowest-next (encodingsRefusalAt table pool) r)
-            ∙ first-assoc (lowestRefusal (encodingsRefusalAt table pool) r) (encodingsRefusalAt table pool r) o
-            ∙ ap (λ (p : Option Refusal). firstRefusal (lowestRefusal (encodingsRefusalAt table pool) r ∷ p ∷ [])) (sym e)
-            ∙ g .rest
+      pub going-rows : (q : ℕ) → q < r + 1 → NodeNumbered noted (spelling after pool) (lastOf after) q (nodeAt table pool q)
+      going-rows q i =
+          by-cases (eqb q r)
+          (λ e. rw (eqb-true q r e) (n .numbered))
+          (λ e. let d = eqb-false q r e in same-row q (omega arith) (g .rows q (omega arith)))
 
-        module _ {names : Checked} (m : names ≡ verdict (namesRefusal table pool r)) where
-          pub going-names : (x : Refusal) → names ≡ Checked.Refused x → {drawn : Checked} → drawn ≡ unlessMalformed table pool (r + 1) names → drawn ≡ verdict (rowsRefusal table pool)
-          going-names x e d =
-              d
-              ∙ ap (unlessMalformed table pool (r + 1)) e
-              ∙ verdict-unless (lowestRefusal (encodingsRefusalAt table pool) (r + 1)) (some x)
-              ∙ ap verdict (next (some x) (go (encodingsRefusalAt table pool r) refl))
-            where
-              row : refusalAt table pool r ≡ firstRefusal (encodingsRefusalAt table pool r ∷ some x ∷ [])
-              row = let n = verdict-refused (namesRefusal table pool r) x (sym m ∙ e) in row-parts table pool r h ∙ rw (passed, n) refl
+      pub going-numbered : Numbered table pool noted (spelling after pool) (lastOf after) (r + 1)
+      going-numbered = record { spelled = spelled (n .right); rows = going-rows }
 
-              go : (o : Option Refusal) → encodingsRefusalAt table pool r ≡ o → refusalFrom (refusalAt table pool) (rowCount table) r ≡ firstRefusal (encodingsRefusalAt table pool r ∷ some x ∷ [])
-              go none q = from-refused (refusalAt table pool) (rowCount table) r h x (row ∙ rw q refl) ∙ rw q refl
-              go (some y) q = from-refused (refusalAt table pool) (rowCount table) r h y (row ∙ rw q refl) ∙ rw q refl
+      pub going-owned : Entered table noted chains r
+      going-owned = renumbered (g .owned) noted l same-notes
 
-          pub going-next : names ≡ Checked.Accepted → {children′ latest′ previous′ : List ℕ} → Seen table children′ latest′ previous′ (r + 1) → Going table pool children′ latest′ previous′ (r + 1)
-          going-next b s =
-              let n = verdict-accepted (namesRefusal table pool r) (sym m ∙ b) in
-              let row : refusalAt table pool r ≡ encodingsRefusalAt table pool r = row-parts table pool r h ∙ rw (passed, n) (sym (first-two (encodingsRefusalAt table pool r))) in
-              record {
-                bound = omega arith;
-                seen = s;
-                rest = next (refusalFrom (refusalAt table pool) (rowCount table) (r + 1)) (from-first (refusalAt table pool) (rowCount table) r h ∙ ap (λ (p : Option Refusal). firstRefusal (p ∷ refusalFrom (refusalAt table pool) (rowCount table) (r + 1) ∷ [])) row);
-              }
+      pub going-kept : (q k : ℕ) → LATEST ≤ k → k < NOTES → noteAt noted q k ≡ noteAt notes₀ q k
+      going-kept q k i j = n .others q k j (λ e m. omega arith) ∙ g .kept q k i j
+
+      pub going-next :
+          {children′ chains′ : List ℕ} → Latest isElement table children′ (r + 1) → Entered table noted chains′ (r + 1) → refusalAt table pool r ≡ none → length after ≡ length dictionary → length chains′ ≡ length chains
+          → Going table pool dictionary₀ notes₀ after noted children′ chains′ (r + 1)
+      going-next elements owned passed words links =
+          let few = g .few in
+          let more = n .few in
+          record {
+            bound = omega arith;
+            elements = elements;
+            owned = owned;
+            right = n .right;
+            few = omega arith;
+            rows = going-rows;
+            kept = going-kept;
+            rest = sym (from-next (refusalAt table pool) (rowCount table) r h passed) ∙ g .rest;
+            words = words ∙ g .words;
+            records = l ∙ g .records;
+            links = links ∙ g .links;
+          }
+
+-- What is refused is not accepted.
+pub not-accepted : {A : Type 0} {drawn : Checked} (x : Refusal) → drawn ≡ Checked.Refused x → drawn ≡ Checked.Accepted → A
+not-accepted x e a = let both : true ≡ false = cc in absurd (true-not-false refl both)
 
 -- The whole check.
 module _ (table pool : List ℕ) where

@@ -1,29 +1,78 @@
-// The check of a node table: refusals 1 to 7 and 12 to 14.
+// The check of a node table: refusals 1 to 7 and 12 to 14. Each name of the table gets a number, equal
+// exactly where the bytes are equal, and what a name is worth is found once for each number.
 ghost use mathlib.Core.Path.{_≡_};
-ghost use Prim.Native.Nat.{_≤_, _<_};
-ghost use Rattle.rules.specs.Table.{MOST-ROWS, rowCount, isElement};
+ghost use Prim.Native.Nat.{ℕ, _≤_, _<_};
+ghost use lib.ListN.{length};
+ghost use Rattle.rules.specs.Table.{MOST-ROWS, MOST-BYTES, rowCount, isElement};
 ghost use Rattle.rules.specs.Refusals.{badSize, verdict, checked};
-ghost use Rattle.tree.specs.Chains.{isOwned, Latest, ParentBefore, Chained};
-ghost use Rattle.checker.specs.Pass.{layoutRefusal, namesRefusal, rowsRefusal};
-use encodings::unless_malformed;
-use fields::declaration;
+ghost use Rattle.rules.specs.declared.Checked.{Checked};
+ghost use Rattle.notes.specs.Notes.{NOTES, LATEST, noteAt};
+ghost use Rattle.tree.specs.Children.{Latest};
+ghost use Rattle.checker.specs.Lent.{FEW-ROWS, Lent, Named};
+ghost use Rattle.checker.specs.Pass.{rowsRefusal, placeRefusal};
 use fields::field;
-use fields::name;
-use fields::namespace;
 use rules::Checked;
 use rules::Refusal;
 use rules::Row;
-use tree::double;
 use tree::structure;
+
+// The rows of a small table, and the words of the arrays that are lent for a small table and for any.
+pub const FEW_ROWS: usize = 64;
+
+pub const SMALL_DICTIONARY: usize = dictionary::EMPTY_WORDS + 3 * FEW_ROWS * dictionary::WIDTH;
+
+pub const SMALL_NOTES: usize = notes::NOTES * FEW_ROWS;
+
+pub const DICTIONARY: usize = dictionary::EMPTY_WORDS + 3 * rules::MOST_ROWS * dictionary::WIDTH;
+
+pub const NOTES: usize = notes::NOTES * rules::MOST_ROWS;
 
 // The first refusal that the table draws, or that it is accepted.
 pub fn check(table: &[u32], pool: &[u8]) -> Checked
     ensures { λ r. ⌜ r ≡ checked (now (table .entry)) (now (pool .entry)) ⌝ }
 {
+    if rows::row_count(table) <= FEW_ROWS {
+        return check_small(table, pool);
+    }
+    check_any(table, pool)
+}
+
+// The check, which leaves the numbers of the names in the notes of the rows, and what they stand for in
+// the dictionary, where it accepts.
+pub fn check_numbered(
+    table: &[u32],
+    pool: &[u8],
+    dictionary: &mut [u16],
+    notes: &mut [u16],
+) -> Checked
+    requires { ⌜ Lent (now table) (now dictionary) (now notes) ⌝ }
+    ensures { λ r. ⌜ r ≡ checked (now (table .entry)) (now (pool .entry)) ⌝ }
+    ensures { λ r. ⌜ (r ≡ Checked.Accepted → Named (now (table .entry)) (now (pool .entry)) (now (dictionary .exit)) (now (notes .exit))) ⌝ }
+    ensures { λ _. ⌜ ((q k : ℕ) → LATEST ≤ k → k < NOTES → noteAt (now (notes .exit)) q k ≡ noteAt (now (notes .entry)) q k) ⌝ }
+{
     if bad_size(table, pool) {
         return Checked::Refused(Refusal::Size);
     }
-    check_rows(table, pool)
+    check_rows(table, pool, dictionary, notes)
+}
+
+// The check in arrays for a small table.
+fn check_small(table: &[u32], pool: &[u8]) -> Checked
+    requires { ⌜ rowCount (now table) ≤ FEW-ROWS ⌝ }
+    ensures { λ r. ⌜ r ≡ checked (now (table .entry)) (now (pool .entry)) ⌝ }
+{
+    let mut dictionary = [0; SMALL_DICTIONARY];
+    let mut notes = [0; SMALL_NOTES];
+    check_numbered(table, pool, &mut dictionary, &mut notes)
+}
+
+// The check in arrays for any table.
+fn check_any(table: &[u32], pool: &[u8]) -> Checked
+    ensures { λ r. ⌜ r ≡ checked (now (table .entry)) (now (pool .entry)) ⌝ }
+{
+    let mut dictionary = [0; DICTIONARY];
+    let mut notes = [0; NOTES];
+    check_numbered(table, pool, &mut dictionary, &mut notes)
 }
 
 // Refusal 1.
@@ -35,63 +84,46 @@ fn bad_size(table: &[u32], pool: &[u8]) -> bool
         | (pool.len() > rules::MOST_BYTES)
 }
 
-// Refusals 2 to 7 and 12 to 14, rows ascending. The arrays of links grow with the pass. Refusal 14 is
-// tried where the pass ends, in the rows that come before what it has drawn, and in that row itself
-// where it is 4 to 7: a pool of ASCII then takes one look, and no row takes any.
-fn check_rows(table: &[u32], pool: &[u8]) -> Checked
-    requires { ⌜ rowCount (now table) ≤ MOST-ROWS ⌝ }
+// Refusals 2 to 7 and 12 to 14, rows ascending. The names of a row get their numbers when its fields
+// are known to lie in the pool.
+fn check_rows(table: &[u32], pool: &[u8], dictionary: &mut [u16], notes: &mut [u16]) -> Checked
+    requires { ⌜ (rowCount (now table) ≤ MOST-ROWS) × (length (now pool) ≤ MOST-BYTES) ⌝ }
+    requires { ⌜ Lent (now table) (now dictionary) (now notes) ⌝ }
     ensures { λ r. ⌜ r ≡ verdict (rowsRefusal (now (table .entry)) (now (pool .entry))) ⌝ }
+    ensures { λ r. ⌜ (r ≡ Checked.Accepted → Named (now (table .entry)) (now (pool .entry)) (now (dictionary .exit)) (now (notes .exit))) ⌝ }
+    ensures { λ _. ⌜ ((q k : ℕ) → LATEST ≤ k → k < NOTES → noteAt (now (notes .exit)) q k ≡ noteAt (now (notes .entry)) q k) ⌝ }
 {
+    let ascii = utf8::is_ascii(pool);
     let mut children = [rules::NONE; rules::MOST_ROWS];
-    let mut latest = [rules::NONE; rules::MOST_ROWS];
-    let mut previous = [rules::NONE; rules::MOST_ROWS];
+    let mut chains = [0; doubles::WORDS];
     let mut r: u32 = 0;
     while rows::has_row(table, Row(r)) {
-        let layout = check_layout(table, pool, &children, Row(r));
-        let Checked::Accepted = layout else {
-            return unless_malformed(table, pool, r, layout);
+        let place = check_place(table, pool, &children, Row(r));
+        let Checked::Accepted = place else {
+            return place;
         };
-        let names = check_names(table, pool, &latest, &previous, Row(r));
+        let kinds = row_names::number(table, pool, dictionary, notes, Row(r));
+        let names = row_names::check(table, pool, ascii, kinds, Row(r));
         let Checked::Accepted = names else {
-            return unless_malformed(table, pool, r + 1, names);
+            return names;
         };
+        if doubles::add(table, notes, &mut chains, Row(r)) {
+            return Checked::Refused(Refusal::Double(Row(r)));
+        }
         structure::add(table, &mut children, Row(r));
-        double::add(table, &mut latest, &mut previous, Row(r));
         r += 1;
     }
-    unless_malformed(table, pool, r, Checked::Accepted)
+    Checked::Accepted
 }
 
-// What comes before 14 in a row: 2, then 3 and 12, then 13.
-fn check_layout(table: &[u32], pool: &[u8], children: &[u32], row: Row) -> Checked
+// The refusal that a row draws before its names are read: 2, then 3, 12 and 13.
+fn check_place(table: &[u32], pool: &[u8], children: &[u32], row: Row) -> Checked
     requires { ⌜ row .0 < rowCount (now table) ⌝ }
     requires { ⌜ Latest isElement (now table) (now children) (row .0) ⌝ }
-    ensures { λ r. ⌜ r ≡ verdict (layoutRefusal (now (table .entry)) (now (pool .entry)) (row .0)) ⌝ }
+    ensures { λ r. ⌜ r ≡ verdict (placeRefusal (now (table .entry)) (now (pool .entry)) (row .0)) ⌝ }
 {
     if structure::bad(table, children, row) {
         return Checked::Refused(Refusal::Structure(row));
     }
     field::check(table, pool, row)
-}
-
-// What comes after 14 in a row: 4 to 7.
-fn check_names(table: &[u32], pool: &[u8], latest: &[u32], previous: &[u32], row: Row) -> Checked
-    requires { ⌜ row .0 < rowCount (now table) ⌝ }
-    requires { ⌜ ParentBefore (now table) (row .0) ⌝ }
-    requires { ⌜ Chained isOwned (now table) (now latest) (now previous) (row .0) ⌝ }
-    ensures { λ r. ⌜ r ≡ verdict (namesRefusal (now (table .entry)) (now (pool .entry)) (row .0)) ⌝ }
-{
-    if name::bad(table, pool, row) {
-        return Checked::Refused(Refusal::Names(row));
-    }
-    if namespace::bad(table, pool, row) {
-        return Checked::Refused(Refusal::Namespace(row));
-    }
-    if declaration::bad(table, pool, row) {
-        return Checked::Refused(Refusal::Declaration(row));
-    }
-    if double::found(table, pool, latest, previous, row) {
-        return Checked::Refused(Refusal::Double(row));
-    }
-    Checked::Accepted
 }

@@ -1,6 +1,7 @@
--- Paths: the path of an element, how it is found and what keeps it. Buffers: what the buffers hold of a state, and the links.
--- Attributes: one element. Rows: all of them.
-pub mod Paths
-pub mod Buffers
-pub mod Attributes
-pub mod Rows
+-- Fit: what holds of every state. Walk: one element and its attributes. Pass: all elements. Start: the buffers at the first element.
+-- Count: how many rows there can be.
+pub mod Fit
+pub mod Walk
+pub mod Pass
+pub mod Start
+pub mod Count

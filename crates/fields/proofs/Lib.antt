@@ -1,2 +1,2 @@
+pub mod Fitting
 pub mod Passes
-pub mod Tests

@@ -71,18 +71,19 @@ module _ (of : ℕ → Option Refusal) where
         by-value c v = v ∙ ap verdict (first-alone (of VALUE) ∙ sym (first-passed (of URI) (of VALUE ∷ []) u c) ∙ from-uri)
 
 -- Both passes.
-module _ (table pool : List ℕ) (r : ℕ) {drawn : Checked} (d : drawn ≡ verdict (placesRefusal table pool r)) where
-  passes : fieldsRefusal (length pool) r (nodeAt table pool r) ≡ firstRefusal (placesRefusal table pool r ∷ lengthsRefusal table pool r ∷ [])
+module _ (table pool : List ℕ) (r : ℕ) where
+  pub passes : fieldsRefusal (length pool) r (nodeAt table pool r) ≡ firstRefusal (placesRefusal table pool r ∷ lengthsRefusal table pool r ∷ [])
   unfolding fieldsRefusal
   passes =
       first-append (map (placeRefusal (length pool) r) (wordedFields (nodeAt table pool r)))
       (map (lengthRefusal (word table r TYPE) r) (wordedFields (nodeAt table pool r)))
 
-  pub refused-place : (x : Refusal) → drawn ≡ Checked.Refused x → drawn ≡ verdict (fieldsRefusal (length pool) r (nodeAt table pool r))
-  refused-place x e = first-refused (placesRefusal table pool r) (lengthsRefusal table pool r ∷ []) d x e ∙ ap verdict (sym passes)
+  module _ {drawn : Checked} (d : drawn ≡ verdict (placesRefusal table pool r)) where
+    pub refused-place : (x : Refusal) → drawn ≡ Checked.Refused x → drawn ≡ verdict (fieldsRefusal (length pool) r (nodeAt table pool r))
+    refused-place x e = first-refused (placesRefusal table pool r) (lengthsRefusal table pool r ∷ []) d x e ∙ ap verdict (sym passes)
 
-  pub by-lengths : drawn ≡ Checked.Accepted → {given : Checked} → given ≡ verdict (lengthsRefusal table pool r) → given ≡ verdict (fieldsRefusal (length pool) r (nodeAt table pool r))
-  by-lengths e l =
-      l
-      ∙ ap verdict
-      (first-alone (lengthsRefusal table pool r) ∙ sym (first-passed (placesRefusal table pool r) (lengthsRefusal table pool r ∷ []) d e) ∙ sym passes)
+    pub by-lengths : drawn ≡ Checked.Accepted → {given : Checked} → given ≡ verdict (lengthsRefusal table pool r) → given ≡ verdict (fieldsRefusal (length pool) r (nodeAt table pool r))
+    by-lengths e l =
+        l
+        ∙ ap verdict
+        (first-alone (lengthsRefusal table pool r) ∙ sym (first-passed (placesRefusal table pool r) (lengthsRefusal table pool r ∷ []) d e) ∙ sym passes)

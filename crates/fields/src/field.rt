@@ -1,4 +1,5 @@
-// Refusals 3, 12 and 13 of a row: its fields are gone through twice, in word order.
+// Refusals 3, 12 and 13 of a row: its fields are gone through twice, in word order, unless one look
+// tells that none is drawn.
 ghost use mathlib.Core.Path.{_≡_};
 ghost use Prim.Native.Nat.{_<_};
 ghost use lib.ListN.{length};
@@ -7,11 +8,23 @@ ghost use Rattle.rules.specs.Refusals.{verdict, fieldsRefusal};
 ghost use Rattle.fields.specs.Passes.{placesRefusal, lengthsRefusal};
 use crate::empty;
 use crate::place;
+use crate::plain;
 use rules::Checked;
 use rules::Row;
 
 // The first refusal that a field of the row draws.
 pub fn check(table: &[u32], pool: &[u8], row: Row) -> Checked
+    requires { ⌜ row .0 < rowCount (now table) ⌝ }
+    ensures { λ r. ⌜ r ≡ verdict (fieldsRefusal (length (now (pool .entry))) (row .0) (nodeAt (now (table .entry)) (now (pool .entry)) (row .0))) ⌝ }
+{
+    if plain::is_plain(table, pool, row) {
+        return Checked::Accepted;
+    }
+    check_each(table, pool, row)
+}
+
+// The two passes.
+fn check_each(table: &[u32], pool: &[u8], row: Row) -> Checked
     requires { ⌜ row .0 < rowCount (now table) ⌝ }
     ensures { λ r. ⌜ r ≡ verdict (fieldsRefusal (length (now (pool .entry))) (row .0) (nodeAt (now (table .entry)) (now (pool .entry)) (row .0))) ⌝ }
 {

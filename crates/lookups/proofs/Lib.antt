@@ -1,3 +1,3 @@
--- Beginning: how a lookup begins, and its answer then. Parts: a found place lies in the pool.
-pub mod Beginning
+-- Going: the answer of a lookup that has begun. Parts: where a part that is handed back stands.
+pub mod Going
 pub mod Parts

@@ -22,7 +22,7 @@ use Rattle.rules.proofs.Refusals.{all-none}
 use Rattle.rules.proofs.Accepted.{Accepted, FieldAccepted, FieldsAccepted, fields-accepted, unrefused}
 use Rattle.names.specs.Parts.{StandsAt}
 use Rattle.outward.proofs.Left.{uriLookup, prefixLookup}
-use Rattle.outward.proofs.Placed.{no-row, answers-good}
+use Rattle.outward.proofs.Every.{no-row, answers-good}
 
 -- The field, if there is one, starts in the pool, or at its end.
 abbrev starts : ℕ → Option Field → Bool

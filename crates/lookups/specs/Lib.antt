@@ -1,2 +1,2 @@
--- What a lookup has when it has begun.
-pub mod Ground
+-- The arrays that are lent to a lookup.
+pub mod Lent

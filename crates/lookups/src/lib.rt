@@ -1,114 +1,84 @@
 // The five lookups of a node table, and two more that hand back the part of the pool that was found.
-// Each runs the whole check first. None writes anything.
+// Each runs the whole check first, and asks for names by their numbers. None writes anything.
 ghost use mathlib.Core.Path.{_≡_};
-ghost use Prim.Native.Nat.{ℕ, _+_};
-ghost use lib.ListN.{length, replicate};
-ghost use mathlib.Core.Option.{some};
-ghost use Rattle.rules.specs.Table.{MOST-ROWS, NONE};
-ghost use Rattle.rules.specs.Lookups.{lookupRefusal, uriOfPrefixAt, prefixOfUriAt, isDefaultAt, inScopeUriAt, inScopePrefixAt, locatedPart};
+ghost use Prim.Native.Nat.{_+_};
+ghost use Rattle.rules.specs.Lookups.{uriOfPrefixAt, prefixOfUriAt, isDefaultAt, inScopeUriAt, inScopePrefixAt, locatedPart};
 ghost use Rattle.rules.specs.Answers.{locatedPlace};
-ghost use Rattle.rules.specs.declared.Refusal.{Refusal};
-ghost use Rattle.lookups.specs.Ground.{Ground};
-ghost use Rattle.lookups.specs.declared.Begun.{Begun};
-use rules::Checked;
+ghost use Rattle.lookups.specs.Lent.{Lent};
+use beginning::Begun;
 use rules::InScope;
 use rules::Located;
-use rules::Refusal;
 use rules::Row;
 use rules::Tested;
-
-// How a lookup begins: along so many elements of the path, or with a refusal.
-enum Begun {
-    Along(usize),
-    Refused(Refusal),
-}
 
 // The URI of a prefix at a row; the empty prefix is the default.
 pub fn uri_of_prefix(table: &[u32], pool: &[u8], row: Row, prefix: &[u8]) -> Located
     ensures { λ r. ⌜ r ≡ uriOfPrefixAt (now (table .entry)) (now (pool .entry)) (row .0) (now (prefix .entry)) ⌝ }
 {
-    let mut first = [rules::NONE; rules::MOST_ROWS];
-    let mut next = [rules::NONE; rules::MOST_ROWS];
-    let mut path = [rules::NONE; rules::MOST_ROWS];
-    let begun = begin(table, pool, row, &mut first, &mut next, &mut path);
-    match begun {
-        Begun::Along(n) => {
-            outward::uri_of_prefix(table, pool, &first, &next, &path[..n], prefix)
-        }
-        Begun::Refused(x) => Located::Refused(x),
+    if rows::row_count(table) <= checker::FEW_ROWS {
+        let mut notes = [0; checker::SMALL_NOTES];
+        let mut path = [rules::NONE; checker::FEW_ROWS];
+        return uri_of_prefix_in(table, pool, row, prefix, &mut notes, &mut path);
     }
+    let mut notes = [0; checker::NOTES];
+    let mut path = [rules::NONE; rules::MOST_ROWS];
+    uri_of_prefix_in(table, pool, row, prefix, &mut notes, &mut path)
 }
 
 // A prefix of a URI at a row.
 pub fn prefix_of_uri(table: &[u32], pool: &[u8], row: Row, uri: &[u8]) -> Located
     ensures { λ r. ⌜ r ≡ prefixOfUriAt (now (table .entry)) (now (pool .entry)) (row .0) (now (uri .entry)) ⌝ }
 {
-    let mut first = [rules::NONE; rules::MOST_ROWS];
-    let mut next = [rules::NONE; rules::MOST_ROWS];
-    let mut path = [rules::NONE; rules::MOST_ROWS];
-    let begun = begin(table, pool, row, &mut first, &mut next, &mut path);
-    match begun {
-        Begun::Along(n) => outward::prefix_of_uri(table, pool, &first, &next, &path[..n], uri),
-        Begun::Refused(x) => Located::Refused(x),
+    if rows::row_count(table) <= checker::FEW_ROWS {
+        let mut notes = [0; checker::SMALL_NOTES];
+        let mut path = [rules::NONE; checker::FEW_ROWS];
+        return prefix_of_uri_in(table, pool, row, uri, &mut notes, &mut path);
     }
+    let mut notes = [0; checker::NOTES];
+    let mut path = [rules::NONE; rules::MOST_ROWS];
+    prefix_of_uri_in(table, pool, row, uri, &mut notes, &mut path)
 }
 
 // Whether a URI is the default at a row.
 pub fn is_default(table: &[u32], pool: &[u8], row: Row, uri: &[u8]) -> Tested
     ensures { λ r. ⌜ r ≡ isDefaultAt (now (table .entry)) (now (pool .entry)) (row .0) (now (uri .entry)) ⌝ }
 {
-    let mut first = [rules::NONE; rules::MOST_ROWS];
-    let mut next = [rules::NONE; rules::MOST_ROWS];
-    let mut path = [rules::NONE; rules::MOST_ROWS];
-    let begun = begin(table, pool, row, &mut first, &mut next, &mut path);
-    match begun {
-        Begun::Along(n) => {
-            if outward::is_default(table, pool, &first, &next, &path[..n], uri) {
-                Tested::Yes
-            } else {
-                Tested::No
-            }
-        }
-        Begun::Refused(x) => Tested::Refused(x),
+    if rows::row_count(table) <= checker::FEW_ROWS {
+        let mut notes = [0; checker::SMALL_NOTES];
+        let mut path = [rules::NONE; checker::FEW_ROWS];
+        return is_default_in(table, pool, row, uri, &mut notes, &mut path);
     }
+    let mut notes = [0; checker::NOTES];
+    let mut path = [rules::NONE; rules::MOST_ROWS];
+    is_default_in(table, pool, row, uri, &mut notes, &mut path)
 }
 
 // The in-scope URI of a prefix at a row: by declarations alone.
 pub fn in_scope_uri(table: &[u32], pool: &[u8], row: Row, prefix: &[u8]) -> InScope
     ensures { λ r. ⌜ r ≡ inScopeUriAt (now (table .entry)) (now (pool .entry)) (row .0) (now (prefix .entry)) ⌝ }
 {
-    let mut first = [rules::NONE; rules::MOST_ROWS];
-    let mut next = [rules::NONE; rules::MOST_ROWS];
-    let mut path = [rules::NONE; rules::MOST_ROWS];
-    let begun = begin(table, pool, row, &mut first, &mut next, &mut path);
-    match begun {
-        Begun::Along(n) => {
-            if n == 0 {
-                return InScope::Nothing; // built-ins included
-            }
-            in_scope::in_scope_uri(table, pool, &first, &next, &path[..n], prefix)
-        }
-        Begun::Refused(x) => InScope::Refused(x),
+    if rows::row_count(table) <= checker::FEW_ROWS {
+        let mut notes = [0; checker::SMALL_NOTES];
+        let mut path = [rules::NONE; checker::FEW_ROWS];
+        return in_scope_uri_in(table, pool, row, prefix, &mut notes, &mut path);
     }
+    let mut notes = [0; checker::NOTES];
+    let mut path = [rules::NONE; rules::MOST_ROWS];
+    in_scope_uri_in(table, pool, row, prefix, &mut notes, &mut path)
 }
 
 // An in-scope prefix of a URI at a row: by declarations alone.
 pub fn in_scope_prefix(table: &[u32], pool: &[u8], row: Row, uri: &[u8]) -> InScope
     ensures { λ r. ⌜ r ≡ inScopePrefixAt (now (table .entry)) (now (pool .entry)) (row .0) (now (uri .entry)) ⌝ }
 {
-    let mut first = [rules::NONE; rules::MOST_ROWS];
-    let mut next = [rules::NONE; rules::MOST_ROWS];
-    let mut path = [rules::NONE; rules::MOST_ROWS];
-    let begun = begin(table, pool, row, &mut first, &mut next, &mut path);
-    match begun {
-        Begun::Along(n) => {
-            if n == 0 {
-                return InScope::Nothing;
-            }
-            in_scope::in_scope_prefix(table, pool, &first, &next, &path[..n], uri)
-        }
-        Begun::Refused(x) => InScope::Refused(x),
+    if rows::row_count(table) <= checker::FEW_ROWS {
+        let mut notes = [0; checker::SMALL_NOTES];
+        let mut path = [rules::NONE; checker::FEW_ROWS];
+        return in_scope_prefix_in(table, pool, row, uri, &mut notes, &mut path);
     }
+    let mut notes = [0; checker::NOTES];
+    let mut path = [rules::NONE; rules::MOST_ROWS];
+    in_scope_prefix_in(table, pool, row, uri, &mut notes, &mut path)
 }
 
 // The URI that uri_of_prefix finds, as a part of the pool; empty for nothing and for a refusal.
@@ -129,32 +99,112 @@ pub fn prefix_part<'p, 'q>(table: &[u32], pool: &'p [u8], row: Row, uri: &'q [u8
     names::located_part(pool, prefix_of_uri(table, pool, row, uri))
 }
 
-// What every lookup begins with: the check, whether the table has the row, the links of the
-// declarations, and the path from the row's start element outward.
-fn begin(
+// The lookups in arrays that are lent: the notes of the rows, and the path of elements.
+fn uri_of_prefix_in(
     table: &[u32],
     pool: &[u8],
     row: Row,
-    first: &mut [u32],
-    next: &mut [u32],
+    prefix: &[u8],
+    notes: &mut [u16],
     path: &mut [u32],
-) -> Begun
-    requires { ⌜ (now first ≡ replicate MOST-ROWS NONE) × (length (now next) ≡ MOST-ROWS) × (length (now path) ≡ MOST-ROWS) ⌝ }
-    ensures { λ r. ⌜ ((n : ℕ) → r ≡ Begun.Along n → Ground (now (table .entry)) (now (pool .entry)) (row .0) (now (first .exit)) (now (next .exit)) (now (path .exit)) n) ⌝ }
-    ensures { λ r. ⌜ ((x : Refusal) → r ≡ Begun.Refused x → lookupRefusal (now (table .entry)) (now (pool .entry)) (row .0) ≡ some x) ⌝ }
+) -> Located
+    requires { ⌜ Lent (now table) (now notes) (now path) ⌝ }
+    ensures { λ r. ⌜ r ≡ uriOfPrefixAt (now (table .entry)) (now (pool .entry)) (row .0) (now (prefix .entry)) ⌝ }
 {
-    let verdict = checker::check(table, pool);
-    if rows::has_row(table, row) {
-        return match verdict {
-            Checked::Accepted => {
-                links::link_declarations(table, first, next);
-                Begun::Along(ancestors::lookup_elements(table, row, path))
-            }
-            Checked::Refused(x) => Begun::Refused(x),
-        };
+    match beginning::begin(table, pool, row, prefix, notes) {
+        Begun::Asked(number) => {
+            let n = beginning::climb(table, row, notes, path);
+            outward::uri_of_prefix(table, notes, &path[..n], number)
+        }
+        Begun::Refused(x) => Located::Refused(x),
     }
-    match verdict {
-        Checked::Accepted => Begun::Refused(Refusal::NoSuchRow),
-        Checked::Refused(earlier) => Begun::Refused(earlier),
+}
+
+fn prefix_of_uri_in(
+    table: &[u32],
+    pool: &[u8],
+    row: Row,
+    uri: &[u8],
+    notes: &mut [u16],
+    path: &mut [u32],
+) -> Located
+    requires { ⌜ Lent (now table) (now notes) (now path) ⌝ }
+    ensures { λ r. ⌜ r ≡ prefixOfUriAt (now (table .entry)) (now (pool .entry)) (row .0) (now (uri .entry)) ⌝ }
+{
+    match beginning::begin(table, pool, row, uri, notes) {
+        Begun::Asked(number) => {
+            let n = beginning::climb(table, row, notes, path);
+            outward::prefix_of_uri(table, notes, &path[..n], number)
+        }
+        Begun::Refused(x) => Located::Refused(x),
+    }
+}
+
+fn is_default_in(
+    table: &[u32],
+    pool: &[u8],
+    row: Row,
+    uri: &[u8],
+    notes: &mut [u16],
+    path: &mut [u32],
+) -> Tested
+    requires { ⌜ Lent (now table) (now notes) (now path) ⌝ }
+    ensures { λ r. ⌜ r ≡ isDefaultAt (now (table .entry)) (now (pool .entry)) (row .0) (now (uri .entry)) ⌝ }
+{
+    match beginning::begin(table, pool, row, uri, notes) {
+        Begun::Asked(number) => {
+            let n = beginning::climb(table, row, notes, path);
+            if outward::is_default(table, notes, &path[..n], number) {
+                return Tested::Yes;
+            }
+            Tested::No
+        }
+        Begun::Refused(x) => Tested::Refused(x),
+    }
+}
+
+fn in_scope_uri_in(
+    table: &[u32],
+    pool: &[u8],
+    row: Row,
+    prefix: &[u8],
+    notes: &mut [u16],
+    path: &mut [u32],
+) -> InScope
+    requires { ⌜ Lent (now table) (now notes) (now path) ⌝ }
+    ensures { λ r. ⌜ r ≡ inScopeUriAt (now (table .entry)) (now (pool .entry)) (row .0) (now (prefix .entry)) ⌝ }
+{
+    match beginning::begin(table, pool, row, prefix, notes) {
+        Begun::Asked(number) => {
+            let n = beginning::climb(table, row, notes, path);
+            if n == 0 {
+                return InScope::Nothing; // built-ins included
+            }
+            declarations::in_scope_uri(table, notes, &path[..n], prefix, number)
+        }
+        Begun::Refused(x) => InScope::Refused(x),
+    }
+}
+
+fn in_scope_prefix_in(
+    table: &[u32],
+    pool: &[u8],
+    row: Row,
+    uri: &[u8],
+    notes: &mut [u16],
+    path: &mut [u32],
+) -> InScope
+    requires { ⌜ Lent (now table) (now notes) (now path) ⌝ }
+    ensures { λ r. ⌜ r ≡ inScopePrefixAt (now (table .entry)) (now (pool .entry)) (row .0) (now (uri .entry)) ⌝ }
+{
+    match beginning::begin(table, pool, row, uri, notes) {
+        Begun::Asked(number) => {
+            let n = beginning::climb(table, row, notes, path);
+            if n == 0 {
+                return InScope::Nothing;
+            }
+            declarations::in_scope_prefix(table, notes, &path[..n], uri, number)
+        }
+        Begun::Refused(x) => InScope::Refused(x),
     }
 }

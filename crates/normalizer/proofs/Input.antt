@@ -5,7 +5,6 @@ use mathlib.Core.Path.{_≡_, refl, sym, _∙_, ap}
 use mathlib.Core.Bool.{Bool, true, false}
 use mathlib.Core.List.{List, [], _∷_}
 use mathlib.Core.Option.{Option, none, some, Option·none-ne-some}
-use lib.ListN.{length}
 use Rattle.rules.specs.Table.{MOST-ROWS, TYPE, nodes, node, word, rowCount, isLevel1}
 use Rattle.rules.specs.Refusals.{refusedIf, firstRefusal, lowestRefusal, verdict, checkRefusal, checked}
 use Rattle.rules.specs.Normalization.{level1Refusal, roomRefusal, normalForm, normalizationRefusal, normalized, refusal}
@@ -13,7 +12,7 @@ use Rattle.rules.specs.declared.Refusal.{Refusal}
 use Rattle.rules.specs.declared.Checked.{Checked}
 use Rattle.rules.specs.declared.Normalized.{Normalized}
 use Rattle.rules.proofs.Table.{length-nodes}
-use Rattle.rules.proofs.Refusals.{not-refused, all-none, verdict-accepted, verdict-refused, refusalFrom, from-start, from-refused, from-next, from-end, lowest-none}
+use Rattle.rules.proofs.Refusals.{all-none, verdict-accepted, verdict-refused, refusalFrom, from-start, from-refused, from-next, from-end}
 use Rattle.rules.proofs.Accepted.{Accepted, accepted, unrefused, few-rows}
 use Rattle.rows.proofs.Words.{type-word}
 use Rattle.outputs.proofs.Ended.{Answers}
@@ -56,17 +55,25 @@ module _ (table pool : List ℕ) where
 
   -- What the check answers.
   module _ {drawn : Checked} (is : drawn ≡ checked table pool) where
-    pub judge-refused : (x : Refusal) → drawn ≡ Checked.Refused x → drawn ≡ verdict (inputRefusal table pool)
+    pub check-refused : (x : Refusal) → drawn ≡ Checked.Refused x → inputRefusal table pool ≡ some x
     unfolding inputRefusal checked
-    judge-refused x told = told ∙ sym (rw (verdict-refused (checkRefusal table pool) x (sym is ∙ told)) refl)
+    check-refused x told = rw (verdict-refused (checkRefusal table pool) x (sym is ∙ told)) refl
 
     module _ (told : drawn ≡ Checked.Accepted) where
       pub judge-few : rowCount table ≤ MOST-ROWS
       judge-few = few-rows table pool (accepted table pool (sym is ∙ told) .size)
 
-      pub judge-level1 : {r : Checked} → r ≡ verdict (level1Refusal (nodes table pool)) → r ≡ verdict (inputRefusal table pool)
+      then-level1 : inputRefusal table pool ≡ level1Refusal (nodes table pool)
       unfolding inputRefusal checked
-      judge-level1 e = e ∙ sym (rw (verdict-accepted (checkRefusal table pool) (sym is ∙ told)) (ap verdict (first-one (level1Refusal (nodes table pool)))))
+      then-level1 = rw (verdict-accepted (checkRefusal table pool) (sym is ∙ told)) (first-one (level1Refusal (nodes table pool)))
+
+      -- And then the rows of DOM Level 1.
+      module _ {r : Checked} (scanned : r ≡ verdict (level1Refusal (nodes table pool))) where
+        pub level1-refused : (x : Refusal) → r ≡ Checked.Refused x → inputRefusal table pool ≡ some x
+        level1-refused x e = then-level1 ∙ verdict-refused (level1Refusal (nodes table pool)) x (sym scanned ∙ e)
+
+        pub none-refused : r ≡ Checked.Accepted → inputRefusal table pool ≡ none
+        none-refused e = then-level1 ∙ verdict-accepted (level1Refusal (nodes table pool)) (sym scanned ∙ e)
 
   -- The input draws none.
   module _ (e : inputRefusal table pool ≡ none) where
@@ -83,17 +90,12 @@ module _ (table pool : List ℕ) where
     pub input-accepted : Accepted table pool
     input-accepted = unrefused table pool unchecked
 
-    pub input-level2 : (r : ℕ) → r < length (nodes table pool) → isLevel1 (node (nodes table pool) r .type) ≡ false
-    unfolding level1Refusal
-    input-level2 r h = not-refused _ _ (lowest-none rowLevel1 (length (nodes table pool)) unleveled r h)
-
   -- It draws one, and so does its normalization.
-  module _ (tableSize poolSize : ℕ) (x : Refusal) (e : verdict (inputRefusal table pool) ≡ Checked.Refused x) where
+  module _ (tableSize poolSize : ℕ) (x : Refusal) (e : inputRefusal table pool ≡ some x) where
     same-refusal : normalizationRefusal table pool tableSize poolSize ≡ some x
     unfolding inputRefusal normalizationRefusal
     same-refusal =
-        first-two (checkRefusal table pool) (level1Refusal (nodes table pool)) (roomRefusal tableSize poolSize (normalForm (nodes table pool) pool)) x
-        (verdict-refused (inputRefusal table pool) x e)
+        first-two (checkRefusal table pool) (level1Refusal (nodes table pool)) (roomRefusal tableSize poolSize (normalForm (nodes table pool) pool)) x e
 
     pub refused-answer : Normalized.Refused x ≡ normalized table pool tableSize poolSize .answer
     unfolding normalized refusal

@@ -1,98 +1,153 @@
 -- What the working buffers hold when the first element is taken up, and at the end.
 -- Assumes nothing.
-use Prim.Native.Nat.{ℕ, _+_, _*_, _≤_, _<_, zero-le}
-use mathlib.Core.Path.{_≡_, sym, _∙_, ap, subst}
+use Prim.Native.Nat.{ℕ, _+_, _-_, _*_, _≤_, _<_, min, zero-le}
+use mathlib.Core.Path.{_≡_, refl, sym, _∙_, ap, subst}
 use mathlib.Core.List.{List, _++_}
-use mathlib.Core.Option.{none}
 use native.Mathlib.Nat.{le-refl}
 use native.Mathlib.Omega.{arith}
-use lib.ListN.{length, take, drop, length-append, length-drop}
+use lib.ListN.{length, take, drop, replicate, length-append, length-drop, length-replicate}
 use lib.Seq.{length-take-le}
-use Rattle.rules.specs.Table.{WIDTH, MOST-ROWS, MOST-BYTES, ATTRIBUTE, DECLARATION, nodes, rowCount}
+use lib.Dec.{ltb}
+use borrow.Author.Tests.{ltb-true, ltb-false}
+use Rattle.rules.specs.Table.{WIDTH, MOST-ROWS, nodes, rowCount}
 use Rattle.rules.specs.Normalization.{State, normalizeRows, normalForm}
+use Rattle.rules.proofs.Lists.{by-cases}
 use Rattle.rules.proofs.Table.{length-nodes}
 use Rattle.rules.proofs.Accepted.{Accepted}
-use Rattle.rules.proofs.Unique.{Steady, steady-start}
-use Rattle.rules.proofs.Bounds.{bounded-start, rows-grow, Limit}
-use Rattle.links.specs.Links.{Linked, Index, owned}
+use Rattle.rules.proofs.Bounds.{rows-grow}
+use Rattle.notes.specs.Notes.{LATEST, PREVIOUS, FIRST, noteAt, HasNotes}
+use Rattle.attributes.specs.Following.{LinkedFrom, SameBefore}
+use Rattle.scopes.specs.Stacks.{TOPS}
+use Rattle.scopes.specs.Standing.{Linked}
+use Rattle.scopes.proofs.Changes.{standing-start, linked-changed}
 use Rattle.buffers.proofs.Meaning.{copied}
-use Rattle.repair.specs.Working.{Room, meant}
-use Rattle.elements.specs.Buffers.{Working, Level2, Finished}
-use Rattle.normalizer.specs.Input.{inputRefusal, WORK}
+use Rattle.repair.specs.Working.{Room, Spare, meant}
+use Rattle.repair.proofs.Changed.{numbers-relinked}
+use Rattle.elements.specs.Buffers.{Working, Finished}
+use Rattle.elements.proofs.Start.{working-start}
+use Rattle.elements.proofs.Count.{rows-most}
 use Rattle.normalizer.specs.Result.{formOf}
-use Rattle.normalizer.proofs.Input.{input-accepted, input-level2}
+use Rattle.normalizer.specs.Lent.{Enough, Blank, Ready, Lent}
+use Rattle.normalizer.proofs.Input.{input-accepted}
+use Rattle.normalizer.proofs.Numbered.{zeros}
 
--- What `make_result` starts from.
-pub record Ready (table work : List ℕ) (rows bytes limit : ℕ) : Type 0 where
-  pub room : Room table rows limit
-  pub size : length work ≡ WORK
-  pub small : bytes ≤ MOST-BYTES
-  pub input : inputRefusal (take (WIDTH * rows) table) (take bytes work) ≡ none
+-- Linking the attributes keeps the links of the declarations.
+pub declarations-kept : (table notes notes′ : List ℕ) → Linked table notes (rowCount table) → SameBefore FIRST notes notes′ → Linked table notes′ (rowCount table)
+declarations-kept table notes notes′ linked same =
+    linked-changed table table notes notes′ (rowCount table) linked (le-refl (rowCount table)) (record { count = le-refl (rowCount table); types = λ r below. refl; parents = λ r below. refl })
+    (λ e. same e LATEST (omega arith)) (λ r below. same r PREVIOUS (omega arith))
 
-module _ {table work : List ℕ} {rows bytes limit : ℕ} (ready : Ready table work rows bytes limit) where
+-- Room that is kept, and room for the rows that were counted.
+pub enough-kept : {rows : ℕ} {notes notes′ path path′ : List ℕ} → Enough rows notes path → length notes′ ≡ length notes → length path′ ≡ length path → Enough rows notes′ path′
+enough-kept enough same same′ = record { each = λ n small twice. let e = enough .each n small twice in (rw same (e .0), rw same′ (e .1)) }
+
+pub enough-read : {rows count : ℕ} {notes path : List ℕ} → count ≡ rows → Enough rows notes path → Enough count notes path
+enough-read {notes = notes} {path = path} is enough = subst (λ (n : ℕ). Enough n notes path) (sym is) enough
+
+-- The first rows of a table are so many.
+pub blank-part : (words : List ℕ) (rows : ℕ) {notes path : List ℕ} → length words ≡ WIDTH * MOST-ROWS → rows ≤ MOST-ROWS → Blank rows notes path → Blank (rowCount (take (WIDTH * rows) words)) notes path
+blank-part words rows {notes} {path} size few blank =
+    let part = length-take-le (WIDTH * rows) words (omega arith) in
+    let same : rows ≡ rowCount (take (WIDTH * rows) words) = omega arith in
+    subst (λ (n : ℕ). Blank n notes path) same blank
+
+module _ {table work notes path : List ℕ} {rows bytes names limit : ℕ} (ready : Ready table work notes path rows bytes names limit) where
   abbrev part : List ℕ
   part = take (WIDTH * rows) table
 
-  abbrev names : List ℕ
-  names = take bytes work
+  abbrev front : List ℕ
+  front = take bytes work
 
   pub part-fits : WIDTH * rows ≤ length table
   part-fits = omega (arith, ready .room .rowRoom, ready .room .tableRoom)
 
-  names-fit : bytes ≤ length work
-  names-fit = omega (arith, ready .size, ready .small)
-
-  names-count : length names ≡ bytes
-  names-count = length-take-le bytes work names-fit
+  front-fits : bytes ≤ length work
+  front-fits = omega (arith, ready .size, ready .small)
 
   part-count : rowCount part ≡ rows
   part-count = let l = length-take-le (WIDTH * rows) table part-fits in omega arith
 
-  pub rows-few : rowCount part ≤ MOST-ROWS
-  rows-few = omega (arith, part-count, ready .room .rowRoom, ready .room .limitSmall)
+  pub few : rows ≤ MOST-ROWS
+  few = omega (arith, ready .room .rowRoom, ready .room .limitSmall)
 
-  node-count : length (nodes part names) ≡ rows
-  node-count = length-nodes part names ∙ part-count
+  pub part-few : rowCount part ≤ MOST-ROWS
+  part-few = omega (arith, part-count, few)
 
-  pub start-working : {first next last attributes following : List ℕ} → Index (owned part DECLARATION) (rowCount part) first next last → length first ≡ MOST-ROWS → length next ≡ MOST-ROWS → Linked (owned part ATTRIBUTE) (rowCount part) attributes following → length attributes ≡ MOST-ROWS → Working rows limit table work first next last attributes following rows bytes 0
-  start-working {first} {next} {last} {attributes} {following} index fl nl links al =
-      record {
-        room = ready .room;
-        index = subst (λ (n : ℕ). Index (owned part DECLARATION) n first next last) part-count index;
-        firstRoom = rw fl (le-refl MOST-ROWS);
-        nextRoom = rw nl (le-refl MOST-ROWS);
-        bytesRoom = names-fit;
-        poolSmall = rw (ready .size) (omega arith);
-        steady = subst (λ (n : ℕ). Steady n (meant table work rows bytes)) node-count (steady-start part names (input-accepted part names (ready .input)));
-        links = subst (λ (n : ℕ). Linked (owned part ATTRIBUTE) n attributes following) part-count links;
-        places = rw al (le-refl MOST-ROWS);
-        roomy =
-            record {
-              base = nodes part names;
-              start = length names;
-              count = node-count;
-              fits = rw (ready .size) (omega (arith, names-count, ready .small, ready .room .rowRoom, ready .room .limitSmall));
-              bounded = bounded-start (nodes part names) names;
-            };
-      }
+  pub part-noted : HasNotes notes (rowCount part)
+  part-noted = ready .enough .each (rowCount part) part-few (omega (arith, part-count)) .0
 
-  pub start-level2 : Level2 rows (meant table work rows bytes .rows)
-  start-level2 = λ r h. input-level2 part names (ready .input) r (rw node-count h)
+  node-count : length (nodes part front) ≡ rows
+  node-count = length-nodes part front ∙ part-count
 
-  pub start-finished : {t p : List ℕ} {n k : ℕ} → Finished t p limit n k (normalizeRows rows rows (meant table work rows bytes)) → Finished t p limit n k (formOf table work rows bytes)
-  unfolding normalForm
-  start-finished {t} {p} {n} {k} made =
-      subst (λ (count : ℕ). Finished t p limit n k (normalizeRows count count (meant table work rows bytes))) (sym node-count) made
+  -- No more rows than this can come: the limit, or twice the rows.
+  module _ {most : ℕ} (is : most ≡ min limit (2 * rows)) where
+    room-most : Room table rows most
+    room-most =
+        record {
+          rowRoom = omega (arith, ready .room .rowRoom);
+          limitSmall = omega (arith, ready .room .limitSmall);
+          tableRoom = omega (arith, ready .room .tableRoom);
+        }
 
--- What `normalize_into` starts from.
-pub record Lent (table pool out work : List ℕ) (limit : ℕ) : Type 0 where
-  pub input : inputRefusal table pool ≡ none
-  pub limited : Limit (length out) limit
-  pub size : length work ≡ WORK
+    names-few : names + (most - rows) ≤ 2 * rows + 1 + most
+    names-few = omega (arith, ready .prepared .few, part-count, room-most .rowRoom)
 
-module _ {table pool out work : List ℕ} {limit : ℕ} (lent : Lent table pool out work limit) where
+    pub tops-small : rows ≤ 64 → TOPS * (names + (most - rows)) + TOPS ≤ 774
+    tops-small small = omega (arith, names-few, is)
+
+    pub tops-any : TOPS * (names + (most - rows)) + TOPS ≤ 9222
+    tops-any = omega (arith, names-few, few, room-most .limitSmall)
+
+    spare : (size : ℕ) → TOPS * (names + (most - rows)) + TOPS ≤ size → Spare (replicate size 0) rows names most
+    spare size fits =
+        record {
+          topped = rw (length-replicate {A = ℕ} size 0) fits;
+          few = omega (arith, names-few, few, room-most .limitSmall);
+        }
+
+    pub start-working :
+        {linked : List ℕ} → length linked ≡ length notes → Linked part linked (rowCount part) → LinkedFrom part linked (rowCount part) 0
+        → ((r k : ℕ) → k < LATEST → noteAt linked r k ≡ noteAt notes r k) → (size : ℕ) → TOPS * (names + (most - rows)) + TOPS ≤ size
+        → Working rows table work linked (replicate size 0) path rows bytes names most 0 0 (meant table work rows bytes)
+    start-working {linked} same declarations attributes kept size fits =
+        let arrays = ready .enough .each most (room-most .limitSmall) (omega arith) in
+        working-start table work rows bytes most room-most front-fits (input-accepted part front (ready .prepared .input))
+        (omega (arith, ready .size, ready .small, few), rw (ready .size) (omega arith))
+        (rw same (arrays .0), arrays .1)
+        (spare size fits)
+        (numbers-relinked (ready .prepared .numbers most (room-most .limitSmall) (arrays .1)) linked kept)
+        (subst (Linked part linked) part-count declarations)
+        (subst (λ (n : ℕ). LinkedFrom part linked n 0) part-count attributes)
+        (standing-start part linked (replicate size 0) path (zeros size) (ready .prepared .unpushed))
+
+    -- So the lower limit is exceeded where the limit is.
+    module _ {t p : List ℕ} {n k : ℕ} {made : State} (twice : length (made .rows) ≤ 2 * rows) (finished : Finished t p most n k made) where
+      within : n ≤ limit → n ≤ most
+      within fits =
+          by-cases (ltb most n)
+          (λ more. absurd (omega (arith, finished .full (ltb-true most n more), ltb-true most n more, twice, is, fits)))
+          (λ enough. ltb-false most n enough)
+
+      lower-limit : Finished t p limit n k made
+      lower-limit =
+          record {
+            full = λ more. omega (arith, more, is, twice, finished .full (omega (arith, more, is)));
+            words = λ fits. finished .words (within fits);
+            held = λ fits. finished .held (within fits);
+            tableRoom = λ fits. finished .tableRoom (within fits);
+            poolRoom = λ fits. finished .poolRoom (within fits);
+          }
+
+    pub start-finished : {t p : List ℕ} {n k : ℕ} → Finished t p most n k (normalizeRows rows rows (meant table work rows bytes)) → Finished t p limit n k (formOf table work rows bytes)
+    unfolding normalForm
+    start-finished {t} {p} {n} {k} made =
+        let count = node-count in
+        lower-limit (subst (λ (m : ℕ). length (formOf table work rows bytes .rows) ≤ 2 * m) count (rows-most (nodes part front) front))
+        (subst (λ (m : ℕ). Finished t p most n k (normalizeRows m m (meant table work rows bytes))) (sym count) made)
+
+module _ {table pool out work notes path : List ℕ} {rows bytes names limit : ℕ} (lent : Lent table pool out work notes path rows bytes names limit) where
   tables : Accepted table pool
-  tables = input-accepted table pool (lent .input)
+  tables = input-accepted table pool (lent .prepared .input)
 
   whole : length table ≡ WIDTH * rowCount table
   whole = omega (arith, tables .size .whole)
@@ -101,12 +156,12 @@ module _ {table pool out work : List ℕ} {limit : ℕ} (lent : Lent table pool 
   start = record { rows = nodes table pool; pool = pool }
 
   -- More rows than are allowed at once.
-  pub start-full : {total : ℕ} → total ≡ rowCount table → limit < total → Finished out work limit (limit + 1) 0 (normalForm (nodes table pool) pool)
+  pub start-full : limit < rows → Finished out work limit (limit + 1) 0 (normalForm (nodes table pool) pool)
   unfolding normalForm normalizeRows
-  start-full is more =
+  start-full more =
       let n = length (nodes table pool) in
       record {
-        full = λ _. omega (arith, is, more, length-nodes table pool, rows-grow n start 0 n zero-le);
+        full = λ _. omega (arith, lent .count, more, length-nodes table pool, rows-grow n start 0 n zero-le);
         words = λ fits. absurd (omega (arith, fits));
         held = λ fits. absurd (omega (arith, fits));
         tableRoom = λ fits. absurd (omega (arith, fits));
@@ -116,9 +171,9 @@ module _ {table pool out work : List ℕ} {limit : ℕ} (lent : Lent table pool 
   pub copy-pool-fits : length pool ≤ length work
   copy-pool-fits = omega (arith, lent .size, tables .size .poolBound)
 
-  module _ {total : ℕ} (is : total ≡ rowCount table) (enough : total ≤ limit) where
+  module _ (enough : rows ≤ limit) where
     pub copy-table-fits : length table ≤ length out
-    copy-table-fits = omega (arith, whole, is, enough, lent .limited .1)
+    copy-table-fits = omega (arith, whole, lent .count, enough, lent .limited .1)
 
     module _ {out′ work′ : List ℕ} (copied-out : out′ ≡ table ++ drop (length table) out) (copied-work : work′ ≡ pool ++ drop (length pool) work) where
       pub out-length : length out′ ≡ length out
@@ -127,24 +182,25 @@ module _ {table pool out work : List ℕ} {limit : ℕ} (lent : Lent table pool 
       pub work-length : length work′ ≡ length work
       work-length = ap length copied-work ∙ simp (length-append, length-drop) (omega (arith, copy-pool-fits))
 
-      table-part : take (WIDTH * total) out′ ≡ table
-      table-part = ap (λ (n : ℕ). take n out′) (ap (λ (n : ℕ). WIDTH * n) is ∙ sym whole) ∙ ap (take (length table)) copied-out ∙ copied table out
+      table-part : take (WIDTH * rows) out′ ≡ table
+      table-part = ap (λ (n : ℕ). take n out′) (ap (λ (n : ℕ). WIDTH * n) (lent .count) ∙ sym whole) ∙ ap (take (length table)) copied-out ∙ copied table out
 
-      pool-part : take (length pool) work′ ≡ pool
-      pool-part = ap (take (length pool)) copied-work ∙ copied pool work
+      pool-part : take bytes work′ ≡ pool
+      pool-part = ap (λ (n : ℕ). take n work′) (lent .held) ∙ ap (take (length pool)) copied-work ∙ copied pool work
 
       -- The copies are what `make_result` starts from, and its result is that of the table and the pool.
-      pub copies-ready : Ready out′ work′ total (length pool) limit
+      pub copies-ready : Ready out′ work′ notes path rows bytes names limit
       copies-ready =
           record {
             room = record { rowRoom = enough; limitSmall = lent .limited .0; tableRoom = rw out-length (omega (arith, lent .limited .1)) };
             size = work-length ∙ lent .size;
-            small = tables .size .poolBound;
-            input = rw (table-part, pool-part) (lent .input);
+            small = rw (lent .held) (tables .size .poolBound);
+            enough = lent .enough;
+            prepared = rw (table-part, pool-part) (lent .prepared);
           }
 
-      pub copies-finished : {t p : List ℕ} {n k : ℕ} → Finished t p limit n k (formOf out′ work′ total (length pool)) → Finished t p limit n k (normalForm (nodes table pool) pool)
+      pub copies-finished : {t p : List ℕ} {n k : ℕ} → Finished t p limit n k (formOf out′ work′ rows bytes) → Finished t p limit n k (normalForm (nodes table pool) pool)
       copies-finished {t} {p} {n} {k} made =
           subst (Finished t p limit n k)
-          (ap (λ (l : List ℕ). normalForm (nodes l (take (length pool) work′)) (take (length pool) work′)) table-part ∙ ap (λ (l : List ℕ). normalForm (nodes table l) l) pool-part)
+          (ap (λ (l : List ℕ). normalForm (nodes l (take bytes work′)) (take bytes work′)) table-part ∙ ap (λ (l : List ℕ). normalForm (nodes table l) l) pool-part)
           made

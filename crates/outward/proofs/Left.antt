@@ -15,8 +15,8 @@ use Rattle.rules.specs.Lookups.{ownDeclarations, declares, unlessEmpty, declare
 use Rattle.rules.proofs.Table.{node-nodes}
 use Rattle.rows.specs.Reading.{found}
 use Rattle.ancestors.specs.Paths.{Element}
-use Rattle.in_scope.specs.Along.{Along}
-use Rattle.in_scope.proofs.Walking.{found-some, found-none}
+use Rattle.declarations.specs.Along.{Along}
+use Rattle.declarations.proofs.Rows.{found-some, found-none}
 
 -- The declaration's answer, or what comes further outward.
 abbrev pub declaredOr : {A : Type 0} → (Node → A) → A → Option Node → A
@@ -37,26 +37,37 @@ pub record Lookup (ns : List Node) (A : Type 0) : Type 0 where
       → answer (e ∷ outward) ≡ cond (named (node ns e)) (own (node ns e)) (declaredOr declared (answer outward) (firstThat test (ownDeclarations ns e)))
 
 -- This is left of the path.
-pub record Left {A : Type 0} (table pool first next path : List ℕ) (lookup : Lookup (nodes table pool) A) (left : List ℕ) : Type 0 where
-  pub along : Along table first next left
+pub record Left {A : Type 0} (table pool path : List ℕ) (lookup : Lookup (nodes table pool) A) (left : List ℕ) : Type 0 where
   pub same : lookup .answer left ≡ lookup .answer path
 
-module _ {A : Type 0} (table pool first next path : List ℕ) (lookup : Lookup (nodes table pool) A) where
+-- e is the first element of what is left.
+module _ (table notes left : List ℕ) (along : Along table notes left) where
+  pub left-element : 0 < length left → (e : ℕ) → e ≡ getD left 0 0 → Element table e
+  left-element less e here = subst (Element table) (sym here) (along .elements 0 less)
+
+  pub along-next : Along table notes (take (length left - 1) (drop 1 left))
+  along-next =
+      subst (Along table notes) (sym (part-to-end left 1))
+      (record { ready = along .ready; elements = outward left (along .elements) })
+    where
+      outward :
+          (left : List ℕ) → ((i : ℕ) → i < length left → Element table (getD left i 0)) → (i : ℕ) → i < length (drop 1 left) → Element table (getD (drop 1 left) i 0)
+      outward [] each i inside = absurd (not-suc-le-zero inside)
+      outward (x ∷ l) each i inside = each (suc i) (omega arith)
+
+module _ {A : Type 0} (table pool path : List ℕ) (lookup : Lookup (nodes table pool) A) where
   abbrev ns : List Node
   ns = nodes table pool
 
-  pub left-first : Along table first next path → Left table pool first next path lookup path
-  left-first along = record { along = along; same = refl }
+  pub left-first : Left table pool path lookup path
+  left-first = record { same = refl }
 
-  pub left-end : (left : List ℕ) → Left table pool first next path lookup left → length left ≡ 0 → lookup .nothing ≡ lookup .answer path
+  pub left-end : (left : List ℕ) → Left table pool path lookup left → length left ≡ 0 → lookup .nothing ≡ lookup .answer path
   left-end [] going over = sym (lookup .end) ∙ going .same
   left-end (e ∷ outward) going over = absurd (not-suc-le-zero (subst (λ n. suc (length outward) ≤ n) over (omega arith)))
 
   -- e is the first element of what is left.
-  module _ (left : List ℕ) (going : Left table pool first next path lookup left) (less : 0 < length left) (e : ℕ) (here : e ≡ getD left 0 0) where
-    pub left-element : Element table e
-    left-element = subst (Element table) (sym here) (going .along .elements 0 less)
-
+  module _ (left : List ℕ) (going : Left table pool path lookup left) (less : 0 < length left) (e : ℕ) (here : e ≡ getD left 0 0) (element : Element table e) where
     split : (left : List ℕ) → 0 < length left → e ≡ getD left 0 0 → left ≡ e ∷ drop 1 left
     split [] less here = absurd (not-suc-le-zero less)
     split (x ∷ outward) less here = ap (λ y. y ∷ outward) (sym here)
@@ -66,7 +77,7 @@ module _ {A : Type 0} (table pool first next path : List ℕ) (lookup : Lookup (
         (t : Bool) → lookup .named (nodeAt table pool e) ≡ t
         → cond t (lookup .own (nodeAt table pool e)) (declaredOr (lookup .declared) (lookup .answer (drop 1 left)) (firstThat (lookup .test) (ownDeclarations ns e))) ≡ lookup .answer path
     by t is =
-        let row = node-nodes table pool e (left-element .within) in
+        let row = node-nodes table pool e (element .within) in
         let further = declaredOr (lookup .declared) (lookup .answer (drop 1 left)) (firstThat (lookup .test) (ownDeclarations ns e)) in
         sym (ap (lookup .answer) (split left less here) ∙ lookup .step e (drop 1 left)
         ∙ ap (λ n. cond (lookup .named n) (lookup .own n) further) row
@@ -84,18 +95,8 @@ module _ {A : Type 0} (table pool first next path : List ℕ) (lookup : Lookup (
       pub left-declared : d < rowCount table → lookup .declared (nodeAt table pool d) ≡ lookup .answer path
       left-declared within = further (some (nodeAt table pool d)) (found-some table pool d within)
 
-      pub left-next : rowCount table ≤ d → Left table pool first next path lookup (take (length left - 1) (drop 1 left))
-      left-next past =
-          subst (Left table pool first next path lookup) (sym (part-to-end left 1))
-          (record {
-            along = record { ready = going .along .ready; elements = outward left (going .along .elements) };
-            same = further none (found-none table pool d past);
-          })
-        where
-          outward :
-              (left : List ℕ) → ((i : ℕ) → i < length left → Element table (getD left i 0)) → (i : ℕ) → i < length (drop 1 left) → Element table (getD (drop 1 left) i 0)
-          outward [] each i inside = absurd (not-suc-le-zero inside)
-          outward (x ∷ l) each i inside = each (suc i) (omega arith)
+      pub left-next : rowCount table ≤ d → Left table pool path lookup (take (length left - 1) (drop 1 left))
+      left-next past = subst (Left table pool path lookup) (sym (part-to-end left 1)) (record { same = further none (found-none table pool d past) })
 
 -- The URI of a prefix.
 module _ (ns : List Node) (prefix : List ℕ) where

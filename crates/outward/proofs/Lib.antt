@@ -1,6 +1,7 @@
--- Left: what is left of a path gives the answer. Tests: what the code asks of a row. Placed: what an answer's place holds. Shadowed: a
--- shadowed prefix is never answered.
+-- Left: what is left of a path gives the answer. Decided: the URI that a row decides. Tests: what the code asks of a row. Every: what
+-- holds of every answer. Shadowed: a shadowed prefix is never answered.
 pub mod Left
+pub mod Decided
 pub mod Tests
-pub mod Placed
+pub mod Every
 pub mod Shadowed

@@ -1,96 +1,71 @@
 -- What the code asks of a row is what the definitions ask.
 -- Assumes nothing.
-use Prim.Native.Nat.{ℕ}
-use mathlib.Core.Bool.{Bool, true, false, cond, _&&_, not, and-false, and-true}
-use mathlib.Core.List.{List, [], _∷_}
-use mathlib.Core.Option.{none, some}
-use mathlib.Core.Path.{_≡_, refl, sym, ap, _∙_}
-use lib.ListN.{length}
-use lib.Dec.{eqb, ltb}
-use native.Mathlib.Omega.{arith}
-use borrow.Author.Tests.{lt-ltb}
+use Prim.Native.Nat.{ℕ, _<_}
+use mathlib.Core.Bool.{Bool, true, false, _&&_, not, and-false, and-true}
+use mathlib.Core.List.{List, []}
+use mathlib.Core.Path.{_≡_, refl, sym, _∙_}
+use lib.Dec.{eqb}
+use borrow.Author.Tests.{eq-eqb, ne-eqb}
 use Rattle.rules.specs.Lists.{isEmpty, sameBytes}
-use Rattle.rules.specs.Table.{ELEMENT, TYPE, PREFIX, LOCAL-NAME, URI, VALUE, Node, nodes, nodeAt, fieldAt, word}
-use Rattle.rules.specs.Lookups.{unlessEmpty, hasName, namesUri, uriOfPrefix, leadsTo, namesPrefix, givesPrefix, prefixAmong, prefixOfUri, namesDefault, located, locatedPart}
-use Rattle.rules.specs.declared.Place.{Place}
+use Rattle.rules.specs.Table.{ELEMENT, TYPE, DECLARATION, Node, nodes, nodeAt, word, rowCount}
+use Rattle.rules.specs.Lookups.{namesUri, leadsTo, namesPrefix, givesPrefix, prefixAmong, prefixOfUri, namesDefault, located}
 use Rattle.rules.specs.declared.Located.{Located}
-use Rattle.rules.proofs.Lists.{length-empty, both-true, not-true}
-use Rattle.rows.specs.Reading.{placeAt}
-use Rattle.in_scope.proofs.Answers.{empty-yes, empty-no}
-use Rattle.outward.proofs.Placed.{leads-by}
+use Rattle.rules.proofs.Lists.{sameBytes-sym, sameBytes-empty}
+use Rattle.notes.specs.Notes.{PREFIX, URI, VALUE, noteAt}
+use Rattle.declarations.specs.Meant.{Meant}
+use Rattle.declarations.proofs.Meanings.{none-names, empty-number, prefix-names, uri-names, value-names}
 
-full-length : (bytes : List ℕ) → ltb 0 (length bytes) ≡ not (isEmpty bytes)
-full-length [] = refl
-full-length (x ∷ bytes) = lt-ltb 0 (length (x ∷ bytes)) (omega arith)
+module _ {table pool notes : List ℕ} {number : ℕ} {name : List ℕ} (m : Meant table pool notes number name) where
+  module _ (r : ℕ) (within : r < rowCount table) where
+    pub uri-is : {u : ℕ} → u ≡ noteAt notes r URI → eqb u number ≡ sameBytes (nodeAt table pool r .uri .bytes) name
+    uri-is read = rw read (m .asked _ _ (uri-names m r within))
 
-module _ (table pool : List ℕ) (r : ℕ) where
-  -- A field that may be empty.
-  module _ (field : ℕ) (bytes : List ℕ) (read : bytes ≡ fieldAt table pool r field .bytes) where
-    pub field-empty : length bytes ≡ 0 → Located.Nothing ≡ located (unlessEmpty (fieldAt table pool r field))
-    field-empty empty = sym (ap (λ t. located (cond t none (some (fieldAt table pool r field)))) (ap isEmpty (sym read) ∙ empty-yes bytes empty))
+    pub value-is : nodeAt table pool r .type ≡ DECLARATION → {v : ℕ} → v ≡ noteAt notes r VALUE → eqb v number ≡ sameBytes (nodeAt table pool r .value .bytes) name
+    value-is type read = rw read (m .asked _ _ (value-names m r within type))
 
-    pub field-filled : (length bytes ≡ 0 → ⊥) → (p : Place) → p ≡ placeAt table r field → Located.At p ≡ located (unlessEmpty (fieldAt table pool r field))
-    field-filled full p is =
-        ap Located.At is ∙ sym (ap (λ t. located (cond t none (some (fieldAt table pool r field)))) (ap isEmpty (sym read) ∙ empty-no bytes full))
+    -- What an element's own name says.
+    module _ (kind : ℕ) (type : kind ≡ word table r TYPE) where
+      pub names-uri :
+          (u p : ℕ) → u ≡ noteAt notes r URI → p ≡ noteAt notes r PREFIX
+          → ((eqb kind ELEMENT && not (eqb u 0)) && eqb p number) ≡ namesUri name (nodeAt table pool r)
+      names-uri u p uri prefix = rw (type, uri, prefix, empty-number m (uri-names m r within), m .asked (noteAt notes r PREFIX) (nodeAt table pool r .prefix .bytes) (prefix-names m r within)) refl
 
-    -- The prefix that stands in the field, and whether it leads to a URI along a path.
-    pub leads-default : (path uri : List ℕ) → length bytes ≡ 0 → false ≡ (not (isEmpty (fieldAt table pool r field .bytes)) && leadsTo (nodes table pool) path uri (fieldAt table pool r field .bytes))
-    leads-default path uri empty = rw (← read, empty-yes bytes empty) refl
+      pub names-default : (p : ℕ) → p ≡ noteAt notes r PREFIX → (eqb kind ELEMENT && eqb p 0) ≡ namesDefault (nodeAt table pool r)
+      names-default p prefix = rw (type, prefix, empty-number m (prefix-names m r within)) refl
 
-    pub leads-full :
-        (path uri : List ℕ) → (length bytes ≡ 0 → ⊥)
-        → sameBytes (locatedPart pool (located (uriOfPrefix (nodes table pool) bytes path))) uri
-        ≡ (not (isEmpty (fieldAt table pool r field .bytes)) && leadsTo (nodes table pool) path uri (fieldAt table pool r field .bytes))
-    leads-full path uri full = leads-by table pool path uri bytes ∙ rw (← read, empty-no bytes full) refl
+      module _ (path : List ℕ) (u : ℕ) (uri : u ≡ noteAt notes r URI) where
+        by :
+            (t : Bool) → (eqb kind ELEMENT && eqb u number) ≡ t
+            → (t && not (isEmpty (nodeAt table pool r .prefix .bytes)) && leadsTo (nodes table pool) path name (nodeAt table pool r .prefix .bytes)) ≡ namesPrefix (nodes table pool) path name (nodeAt table pool r)
+        by t e = rw (← e, type, uri-is uri) refl
 
-  -- What an element's own name says.
-  module _ (kind : ℕ) (type : kind ≡ word table r TYPE) where
-    pub names-uri :
-        (prefix uri : List ℕ) → uri ≡ fieldAt table pool r URI .bytes → (is : Bool) → is ≡ sameBytes (fieldAt table pool r PREFIX .bytes) prefix
-        → ((eqb kind ELEMENT && ltb 0 (length uri)) && is) ≡ namesUri prefix (nodeAt table pool r)
-    names-uri prefix uri read is same = rw (type, full-length uri, read, same) refl
+        pub names-prefix-by :
+            (eqb kind ELEMENT && eqb u number) ≡ true
+            → (not (isEmpty (nodeAt table pool r .prefix .bytes)) && leadsTo (nodes table pool) path name (nodeAt table pool r .prefix .bytes)) ≡ namesPrefix (nodes table pool) path name (nodeAt table pool r)
+        names-prefix-by e = by true e
 
-    pub names-default : (prefix : List ℕ) → prefix ≡ fieldAt table pool r PREFIX .bytes → (eqb kind ELEMENT && eqb (length prefix) 0) ≡ namesDefault (nodeAt table pool r)
-    names-default prefix read = rw (type, ← length-empty prefix, read) refl
+        pub names-prefix-other : (eqb kind ELEMENT && eqb u number) ≡ false → false ≡ namesPrefix (nodes table pool) path name (nodeAt table pool r)
+        names-prefix-other e = by false e
 
-    module _ (path uri : List ℕ) (is : Bool) (same : is ≡ sameBytes (fieldAt table pool r URI .bytes) uri) where
-      by :
-          (t : Bool) → (eqb kind ELEMENT && is) ≡ t
-          → (t && not (isEmpty (fieldAt table pool r PREFIX .bytes)) && leadsTo (nodes table pool) path uri (fieldAt table pool r PREFIX .bytes)) ≡ namesPrefix (nodes table pool) path uri (nodeAt table pool r)
-      by t e = rw (← e, type, same) refl
+    -- A declaration's prefix, as an answer for a URI.
+    module _ (type : word table r TYPE ≡ DECLARATION) (path : List ℕ) (v : ℕ) (value : v ≡ noteAt notes r VALUE) where
+      pub gives-by :
+          v ≡ number
+          → (not (isEmpty (nodeAt table pool r .local .bytes)) && leadsTo (nodes table pool) path name (nodeAt table pool r .local .bytes)) ≡ givesPrefix (nodes table pool) path name (nodeAt table pool r)
+      gives-by same = rw (sym (value-is type value) ∙ eq-eqb v number same, and-true) refl
 
-      pub names-prefix-by :
-          (eqb kind ELEMENT && is) ≡ true
-          → (not (isEmpty (fieldAt table pool r PREFIX .bytes)) && leadsTo (nodes table pool) path uri (fieldAt table pool r PREFIX .bytes)) ≡ namesPrefix (nodes table pool) path uri (nodeAt table pool r)
-      names-prefix-by e = by true e
+      pub gives-other : (v ≡ number → ⊥) → false ≡ givesPrefix (nodes table pool) path name (nodeAt table pool r)
+      gives-other other = rw (sym (value-is type value) ∙ ne-eqb v number other, and-false) refl
 
-      pub names-prefix-other : (eqb kind ELEMENT && is) ≡ false → false ≡ namesPrefix (nodes table pool) path uri (nodeAt table pool r)
-      names-prefix-other e = by false e
+  -- The empty URI has no prefix.
+  empty-asked : eqb 0 number ≡ isEmpty name
+  empty-asked = m .asked 0 [] (none-names m) ∙ sameBytes-sym [] name ∙ sameBytes-empty name
 
-  -- Where the element's own name answers for a prefix, its URI is not empty.
-  pub named-filled : (prefix : List ℕ) → namesUri prefix (nodeAt table pool r) ≡ true → unlessEmpty (fieldAt table pool r URI) ≡ some (nodeAt table pool r .uri)
-  named-filled prefix is =
-      let n = nodeAt table pool r in
-      let named = both-true (hasName n && not (isEmpty (n .uri .bytes))) (sameBytes (n .prefix .bytes) prefix) is .0 in
-      let full = both-true (hasName n) (not (isEmpty (n .uri .bytes))) named .1 in
-      ap (λ t. cond t none (some (fieldAt table pool r URI))) (not-true (isEmpty (n .uri .bytes)) full)
+  module _ (ns : List Node) (path : List ℕ) where
+    pub prefix-empty : number ≡ 0 → Located.Nothing ≡ located (prefixOfUri ns name path)
+    unfolding prefixOfUri
+    prefix-empty zero? = rw (sym empty-asked ∙ eq-eqb 0 number (sym zero?)) refl
 
-  -- A declaration's prefix, as an answer for a URI.
-  module _ (path uri : List ℕ) where
-    pub gives-by :
-        sameBytes (fieldAt table pool r VALUE .bytes) uri ≡ true
-        → (not (isEmpty (fieldAt table pool r LOCAL-NAME .bytes)) && leadsTo (nodes table pool) path uri (fieldAt table pool r LOCAL-NAME .bytes)) ≡ givesPrefix (nodes table pool) path uri (nodeAt table pool r)
-    gives-by same = rw (same, and-true) refl
-
-    pub gives-other : sameBytes (fieldAt table pool r VALUE .bytes) uri ≡ false → false ≡ givesPrefix (nodes table pool) path uri (nodeAt table pool r)
-    gives-other other = rw (other, and-false) refl
-
--- The empty URI has no prefix.
-module _ (ns : List Node) (uri path : List ℕ) where
-  pub prefix-empty : length uri ≡ 0 → Located.Nothing ≡ located (prefixOfUri ns uri path)
-  unfolding prefixOfUri
-  prefix-empty empty = rw (empty-yes uri empty) refl
-
-  pub prefix-asked : (length uri ≡ 0 → ⊥) → prefixAmong ns path uri path ≡ prefixOfUri ns uri path
-  unfolding prefixOfUri
-  prefix-asked full = rw (empty-no uri full) refl
+    pub prefix-asked : (number ≡ 0 → ⊥) → prefixAmong ns path name path ≡ prefixOfUri ns name path
+    unfolding prefixOfUri
+    prefix-asked full = rw (sym empty-asked ∙ ne-eqb 0 number (λ z. full (sym z))) refl

@@ -1,68 +1,52 @@
 // What the lookups that see elements' own names find along a path, from its first element outward: the
-// URI of a prefix, the prefix of a URI, and the default test.
+// URI of a prefix, the prefix of a URI, and the default test. Names are asked for by their numbers.
 ghost use mathlib.Core.Path.{_≡_};
 ghost use mathlib.Core.Bool.{_&&_, not};
-ghost use Prim.Native.Nat.{_<_};
+ghost use mathlib.Core.List.{List};
+ghost use Prim.Native.Nat.{ℕ, _*_, _≤_, _<_};
+ghost use lib.ListN.{length};
 ghost use Rattle.rules.specs.Lists.{firstThat, isEmpty};
-ghost use Rattle.rules.specs.Table.{nodes, nodeAt, fieldAt, rowCount};
-ghost use Rattle.rules.specs.Lookups.{ownDeclarations, unlessEmpty, namesUri, uriOfPrefix, leadsTo, namesPrefix, givesPrefix, prefixOfUri, namesDefault, isDefault, located};
-ghost use Rattle.rows.specs.Reading.{HasField, found};
+ghost use Rattle.rules.specs.Table.{TYPE, DECLARATION, nodes, nodeAt, word, rowCount};
+ghost use Rattle.rules.specs.Lookups.{ownDeclarations, namesUri, uriOfPrefix, leadsTo, namesPrefix, givesPrefix, prefixOfUri, namesDefault, isDefault, located};
+ghost use Rattle.notes.specs.Notes.{NOTES};
+ghost use Rattle.rows.specs.Reading.{found};
 ghost use Rattle.ancestors.specs.Paths.{Element};
-ghost use Rattle.in_scope.specs.Along.{Along};
+ghost use Rattle.declarations.specs.Along.{Along};
+ghost use Rattle.declarations.specs.Meant.{Meant};
+ghost use Rattle.outward.specs.Deciding.{decided, decidedNumber};
 use rules::Located;
 use rules::Row;
 
 // The URI of a prefix, or of the default.
-pub fn uri_of_prefix(
-    table: &[u32],
-    pool: &[u8],
-    first: &[u32],
-    next: &[u32],
-    path: &[u32],
-    prefix: &[u8],
-) -> Located
-    requires { ⌜ Along (now table) (now first) (now next) (now path) ⌝ }
-    ensures { λ r. ⌜ r ≡ located (uriOfPrefix (nodes (now (table .entry)) (now (pool .entry))) (now (prefix .entry)) (now (path .entry))) ⌝ }
+pub fn uri_of_prefix(table: &[u32], notes: &[u16], path: &[u32], prefix: u16) -> Located
+    requires { ⌜ Along (now table) (now notes) (now path) ⌝ }
+    ensures { λ r. ⌜ ((pool name : List ℕ) → Meant (now (table .entry)) pool (now (notes .entry)) prefix name → r ≡ located (uriOfPrefix (nodes (now (table .entry)) pool) name (now (path .entry)))) ⌝ }
 {
-    let mut left = path;
-    while left.len() > 0 {
-        let element = rows::row_at(left, 0);
-        let named = names_uri(table, pool, element, prefix);
-        let own = in_scope::declarations::own(table, pool, first, next, element, prefix);
-        let declared = rows::has_row(table, own);
-        if named {
-            return filled(table, pool, element, rules::URI);
-        }
-        if declared {
-            return filled(table, pool, own, rules::VALUE);
-        }
-        left = &left[1..];
+    let row = deciding(table, notes, path, prefix);
+    if uri_number(table, notes, row) == 0 {
+        return Located::Nothing;
     }
-    Located::Nothing
+    if rows::kind(table, row) == rules::DECLARATION {
+        return Located::At(rows::place(table, row, rules::VALUE));
+    }
+    Located::At(rows::place(table, row, rules::URI))
 }
 
 // The prefix of a URI. The empty URI has none.
-pub fn prefix_of_uri(
-    table: &[u32],
-    pool: &[u8],
-    first: &[u32],
-    next: &[u32],
-    path: &[u32],
-    uri: &[u8],
-) -> Located
-    requires { ⌜ Along (now table) (now first) (now next) (now path) ⌝ }
-    ensures { λ r. ⌜ r ≡ located (prefixOfUri (nodes (now (table .entry)) (now (pool .entry))) (now (uri .entry)) (now (path .entry))) ⌝ }
+pub fn prefix_of_uri(table: &[u32], notes: &[u16], path: &[u32], uri: u16) -> Located
+    requires { ⌜ Along (now table) (now notes) (now path) ⌝ }
+    ensures { λ r. ⌜ ((pool name : List ℕ) → Meant (now (table .entry)) pool (now (notes .entry)) uri name → r ≡ located (prefixOfUri (nodes (now (table .entry)) pool) name (now (path .entry)))) ⌝ }
 {
-    if uri.len() == 0 {
+    if uri == 0 {
         return Located::Nothing;
     }
     let mut left = path;
     while left.len() > 0 {
         let element = rows::row_at(left, 0);
-        if names_prefix(table, pool, first, next, path, element, uri) {
+        if names_prefix(table, notes, path, element, uri) {
             return Located::At(rows::place(table, element, rules::PREFIX));
         }
-        let own = own_giving(table, pool, first, next, path, element, uri);
+        let own = own_giving(table, notes, path, element, uri);
         if rows::has_row(table, own) {
             return Located::At(rows::place(table, own, rules::LOCAL_NAME));
         }
@@ -72,157 +56,132 @@ pub fn prefix_of_uri(
 }
 
 // The URI is the default.
-pub fn is_default(
-    table: &[u32],
-    pool: &[u8],
-    first: &[u32],
-    next: &[u32],
-    path: &[u32],
-    uri: &[u8],
-) -> bool
-    requires { ⌜ Along (now table) (now first) (now next) (now path) ⌝ }
-    ensures { λ r. ⌜ r ≡ isDefault (nodes (now (table .entry)) (now (pool .entry))) (now (uri .entry)) (now (path .entry)) ⌝ }
+pub fn is_default(table: &[u32], notes: &[u16], path: &[u32], uri: u16) -> bool
+    requires { ⌜ Along (now table) (now notes) (now path) ⌝ }
+    ensures { λ r. ⌜ ((pool name : List ℕ) → Meant (now (table .entry)) pool (now (notes .entry)) uri name → r ≡ isDefault (nodes (now (table .entry)) pool) name (now (path .entry))) ⌝ }
 {
     let mut left = path;
     while left.len() > 0 {
         let element = rows::row_at(left, 0);
-        if names_default(table, pool, element) {
-            return rows::field_is(table, pool, element, rules::URI, uri);
+        if names_default(table, notes, element) {
+            return notes::note(notes, element, notes::URI) == uri;
         }
-        let own = in_scope::declarations::own(table, pool, first, next, element, &uri[..0]);
+        let own = declarations::own(table, notes, element, 0);
         if rows::has_row(table, own) {
-            return rows::field_is(table, pool, own, rules::VALUE, uri);
+            return notes::note(notes, own, notes::VALUE) == uri;
         }
         left = &left[1..];
     }
     false // no element decides
 }
 
-// The element's own name answers for the prefix.
-fn names_uri(table: &[u32], pool: &[u8], element: Row, prefix: &[u8]) -> bool
-    requires { ⌜ element .0 < rowCount (now table) ⌝ }
-    ensures { λ r. ⌜ r ≡ namesUri (now (prefix .entry)) (nodeAt (now (table .entry)) (now (pool .entry)) (element .0)) ⌝ }
+// The row that decides the URI of a prefix: an element by its own name, or a declaration.
+fn deciding(table: &[u32], notes: &[u16], path: &[u32], prefix: u16) -> Row
+    requires { ⌜ Along (now table) (now notes) (now path) ⌝ }
+    ensures { λ r. ⌜ ((pool name : List ℕ) → Meant (now (table .entry)) pool (now (notes .entry)) prefix name → decided (found (nodes (now (table .entry)) pool) (r .0)) ≡ uriOfPrefix (nodes (now (table .entry)) pool) name (now (path .entry))) ⌝ }
 {
-    (rows::kind(table, element) == rules::ELEMENT)
-        & (rows::field(table, pool, element, rules::URI).len() > 0)
-        & rows::field_is(table, pool, element, rules::PREFIX, prefix)
+    let mut left = path;
+    while left.len() > 0 {
+        let element = rows::row_at(left, 0);
+        let named = names_uri(table, notes, element, prefix);
+        let own = declarations::own(table, notes, element, prefix);
+        let declared = rows::has_row(table, own);
+        if named {
+            return element;
+        }
+        if declared {
+            return own;
+        }
+        left = &left[1..];
+    }
+    Row(rules::NONE)
 }
 
-// The place of a field of a row, or nothing when it is empty.
-fn filled(table: &[u32], pool: &[u8], row: Row, field: u32) -> Located
-    requires { ⌜ HasField (now table) (row .0) field ⌝ }
-    ensures { λ r. ⌜ r ≡ located (unlessEmpty (fieldAt (now (table .entry)) (now (pool .entry)) (row .0) field)) ⌝ }
+// The number of the URI that a row decides; that of the empty one, if the row is missing.
+fn uri_number(table: &[u32], notes: &[u16], row: Row) -> u16
+    requires { ⌜ NOTES * rowCount (now table) ≤ length (now notes) ⌝ }
+    ensures { λ r. ⌜ r ≡ decidedNumber (now (table .entry)) (now (notes .entry)) (row .0) ⌝ }
 {
-    if rows::field(table, pool, row, field).len() == 0 {
-        return Located::Nothing;
+    if rows::has_row(table, row) {
+        if rows::kind(table, row) == rules::DECLARATION {
+            return notes::note(notes, row, notes::VALUE);
+        }
+        return notes::note(notes, row, notes::URI);
     }
-    Located::At(rows::place(table, row, field))
+    0
+}
+
+// The element's own name answers for the prefix.
+fn names_uri(table: &[u32], notes: &[u16], element: Row, prefix: u16) -> bool
+    requires { ⌜ (element .0 < rowCount (now table)) × (NOTES * rowCount (now table) ≤ length (now notes)) ⌝ }
+    ensures { λ r. ⌜ ((pool name : List ℕ) → Meant (now (table .entry)) pool (now (notes .entry)) prefix name → r ≡ namesUri name (nodeAt (now (table .entry)) pool (element .0))) ⌝ }
+{
+    (rows::kind(table, element) == rules::ELEMENT)
+        & (notes::note(notes, element, notes::URI) != 0)
+        & (notes::note(notes, element, notes::PREFIX) == prefix)
 }
 
 // The element's own prefix answers for the URI.
-fn names_prefix(
-    table: &[u32],
-    pool: &[u8],
-    first: &[u32],
-    next: &[u32],
-    path: &[u32],
-    element: Row,
-    uri: &[u8],
-) -> bool
-    requires { ⌜ Along (now table) (now first) (now next) (now path) ⌝ }
+fn names_prefix(table: &[u32], notes: &[u16], path: &[u32], element: Row, uri: u16) -> bool
+    requires { ⌜ Along (now table) (now notes) (now path) ⌝ }
     requires { ⌜ element .0 < rowCount (now table) ⌝ }
-    ensures { λ r. ⌜ r ≡ namesPrefix (nodes (now (table .entry)) (now (pool .entry))) (now (path .entry)) (now (uri .entry)) (nodeAt (now (table .entry)) (now (pool .entry)) (element .0)) ⌝ }
+    ensures { λ r. ⌜ ((pool name : List ℕ) → Meant (now (table .entry)) pool (now (notes .entry)) uri name → r ≡ namesPrefix (nodes (now (table .entry)) pool) (now (path .entry)) name (nodeAt (now (table .entry)) pool (element .0))) ⌝ }
 {
     let named = rows::kind(table, element) == rules::ELEMENT;
-    if named & rows::field_is(table, pool, element, rules::URI, uri) {
-        return leads_to(table, pool, first, next, path, element, rules::PREFIX, uri);
+    if named & (notes::note(notes, element, notes::URI) == uri) {
+        let prefix = notes::note(notes, element, notes::PREFIX);
+        return leads_to(table, notes, path, prefix, uri);
     }
     false
 }
 
 // The first of an element's own declarations whose prefix answers for the URI.
-fn own_giving(
-    table: &[u32],
-    pool: &[u8],
-    first: &[u32],
-    next: &[u32],
-    path: &[u32],
-    element: Row,
-    uri: &[u8],
-) -> Row
-    requires { ⌜ Along (now table) (now first) (now next) (now path) ⌝ }
+fn own_giving(table: &[u32], notes: &[u16], path: &[u32], element: Row, uri: u16) -> Row
+    requires { ⌜ Along (now table) (now notes) (now path) ⌝ }
     requires { ⌜ Element (now table) (element .0) ⌝ }
-    ensures { λ r. ⌜ found (nodes (now (table .entry)) (now (pool .entry))) (r .0) ≡ firstThat (givesPrefix (nodes (now (table .entry)) (now (pool .entry))) (now (path .entry)) (now (uri .entry))) (ownDeclarations (nodes (now (table .entry)) (now (pool .entry))) (element .0)) ⌝ }
+    ensures { λ r. ⌜ ((pool name : List ℕ) → Meant (now (table .entry)) pool (now (notes .entry)) uri name → found (nodes (now (table .entry)) pool) (r .0) ≡ firstThat (givesPrefix (nodes (now (table .entry)) pool) (now (path .entry)) name) (ownDeclarations (nodes (now (table .entry)) pool) (element .0))) ⌝ }
 {
     let e = element.0;
-    let mut row = rows::linked(first, Row(e));
-    while rows::has_row(table, row) {
-        if gives_prefix(table, pool, first, next, path, row, uri) {
-            return row;
-        }
-        row = rows::linked(next, row);
+    let mut first = rules::NONE;
+    let mut at = notes::note(notes, Row(e), notes::LATEST);
+    while at > 0 {
+        let row = scopes::row_at(at);
+        let is = gives_prefix(table, notes, path, row, uri);
+        first = declarations::earlier(is, row.0, first);
+        at = notes::note(notes, row, notes::PREVIOUS);
     }
-    Row(rules::NONE)
+    Row(first)
 }
 
 // The declaration's prefix answers for the URI.
-fn gives_prefix(
-    table: &[u32],
-    pool: &[u8],
-    first: &[u32],
-    next: &[u32],
-    path: &[u32],
-    declaration: Row,
-    uri: &[u8],
-) -> bool
-    requires { ⌜ Along (now table) (now first) (now next) (now path) ⌝ }
-    requires { ⌜ declaration .0 < rowCount (now table) ⌝ }
-    ensures { λ r. ⌜ r ≡ givesPrefix (nodes (now (table .entry)) (now (pool .entry))) (now (path .entry)) (now (uri .entry)) (nodeAt (now (table .entry)) (now (pool .entry)) (declaration .0)) ⌝ }
+fn gives_prefix(table: &[u32], notes: &[u16], path: &[u32], declaration: Row, uri: u16) -> bool
+    requires { ⌜ Along (now table) (now notes) (now path) ⌝ }
+    requires { ⌜ (declaration .0 < rowCount (now table)) × (word (now table) (declaration .0) TYPE ≡ DECLARATION) ⌝ }
+    ensures { λ r. ⌜ ((pool name : List ℕ) → Meant (now (table .entry)) pool (now (notes .entry)) uri name → r ≡ givesPrefix (nodes (now (table .entry)) pool) (now (path .entry)) name (nodeAt (now (table .entry)) pool (declaration .0))) ⌝ }
 {
-    if rows::field_is(table, pool, declaration, rules::VALUE, uri) {
-        return leads_to(
-            table,
-            pool,
-            first,
-            next,
-            path,
-            declaration,
-            rules::LOCAL_NAME,
-            uri,
-        );
+    if notes::note(notes, declaration, notes::VALUE) == uri {
+        let prefix = notes::note(notes, declaration, notes::LOCAL_NAME);
+        return leads_to(table, notes, path, prefix, uri);
     }
     false
 }
 
-// The prefix that stands in the field of the row is not empty, and its URI, looked up along the whole
-// path, is this one.
-fn leads_to(
-    table: &[u32],
-    pool: &[u8],
-    first: &[u32],
-    next: &[u32],
-    path: &[u32],
-    row: Row,
-    field: u32,
-    uri: &[u8],
-) -> bool
-    requires { ⌜ Along (now table) (now first) (now next) (now path) ⌝ }
-    requires { ⌜ HasField (now table) (row .0) field ⌝ }
-    ensures { λ r. ⌜ r ≡ (not (isEmpty (fieldAt (now (table .entry)) (now (pool .entry)) (row .0) field .bytes)) && leadsTo (nodes (now (table .entry)) (now (pool .entry))) (now (path .entry)) (now (uri .entry)) (fieldAt (now (table .entry)) (now (pool .entry)) (row .0) field .bytes)) ⌝ }
+// The prefix is not empty, and its URI, looked up along the whole path, is this one.
+fn leads_to(table: &[u32], notes: &[u16], path: &[u32], prefix: u16, uri: u16) -> bool
+    requires { ⌜ Along (now table) (now notes) (now path) ⌝ }
+    ensures { λ r. ⌜ ((pool name other : List ℕ) → Meant (now (table .entry)) pool (now (notes .entry)) uri name → Meant (now (table .entry)) pool (now (notes .entry)) prefix other → r ≡ (not (isEmpty other) && leadsTo (nodes (now (table .entry)) pool) (now (path .entry)) name other)) ⌝ }
 {
-    let prefix = rows::field(table, pool, row, field);
-    if prefix.len() == 0 {
+    if prefix == 0 {
         return false;
     }
-    let uri_found = uri_of_prefix(table, pool, first, next, path, prefix);
-    names::same(names::located_part(pool, uri_found), uri)
+    uri_number(table, notes, deciding(table, notes, path, prefix)) == uri
 }
 
 // The element decides the default by its own name.
-fn names_default(table: &[u32], pool: &[u8], element: Row) -> bool
-    requires { ⌜ element .0 < rowCount (now table) ⌝ }
-    ensures { λ r. ⌜ r ≡ namesDefault (nodeAt (now (table .entry)) (now (pool .entry)) (element .0)) ⌝ }
+fn names_default(table: &[u32], notes: &[u16], element: Row) -> bool
+    requires { ⌜ (element .0 < rowCount (now table)) × (NOTES * rowCount (now table) ≤ length (now notes)) ⌝ }
+    ensures { λ r. ⌜ ((pool name : List ℕ) (number : ℕ) → Meant (now (table .entry)) pool (now (notes .entry)) number name → r ≡ namesDefault (nodeAt (now (table .entry)) pool (element .0))) ⌝ }
 {
     (rows::kind(table, element) == rules::ELEMENT)
-        & (rows::field(table, pool, element, rules::PREFIX).len() == 0)
+        & (notes::note(notes, element, notes::PREFIX) == 0)
 }

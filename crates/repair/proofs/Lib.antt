@@ -1,5 +1,12 @@
--- Steps: an element's declaration set or appended. Decisions: what the code decides is what the definitions repair by. Made: what
--- performing a repair leaves in the buffers.
+-- Writes: what the writes read and leave. Held: what good buffers hold. Changed: the numbers after a write. Steps: good buffers after
+-- a move or a write. Declaring: a new declaration on the path. Own: an element's own declaration. Elements: steps 1 and 2.
+-- Attributes, Unserved: step 3.
+pub mod Writes
+pub mod Held
+pub mod Changed
 pub mod Steps
-pub mod Decisions
-pub mod Made
+pub mod Declaring
+pub mod Own
+pub mod Elements
+pub mod Attributes
+pub mod Unserved

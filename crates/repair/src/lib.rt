@@ -1,136 +1,236 @@
 // The steps of normalization for one element and one attribute, in working buffers: a table of which
-// the first rows count, and a pool of which the first bytes do. What is in scope is asked along the
-// path of the element. A step that appends a row does not link it.
+// the first rows count, a pool of which the first bytes do, the notes of the rows, and the arrays of the
+// path of scopes, which stands at the element. What is in scope is asked by the numbers of names.
 ghost use mathlib.Core.Path.{_≡_};
-ghost use mathlib.Core.List.{List, [], _∷_, _++_};
-ghost use Prim.Native.Nat.{_+_, _*_, _≤_, _<_};
-ghost use lib.ListN.{length, take};
-ghost use Rattle.rules.specs.Table.{WIDTH, Node, node, words};
-ghost use Rattle.rules.specs.Normalization.{newDeclaration, repairElement, repairAttribute};
-ghost use Rattle.rules.proofs.Accepted.{Plain};
-ghost use Rattle.rules.proofs.Unique.{Unique};
-ghost use Rattle.repair.specs.Working.{rowsOf, meant, Room, At, Attribute, Stepped, Written};
-use decision::Decision;
+ghost use mathlib.Core.Bool.{false};
+ghost use mathlib.Core.List.{List};
+ghost use Prim.Native.Nat.{ℕ, _+_, _≤_, _<_, max};
+ghost use lib.ListN.{length};
+ghost use Rattle.rules.specs.Table.{node};
+ghost use Rattle.rules.specs.Normalization.{repairAttribute};
+ghost use Rattle.repair.specs.Working.{Good, AtElement, AtAttribute, AtOwn, Undeclared, AtTop, AtUnserved, SameAttributes, After, AfterAttribute, isFree, elementStep, valued, declaredFor};
 use rules::Row;
 
-mod decision;
-mod prefix;
+mod changes;
 
-// How many rows of the table and bytes of the pool count.
+// How many rows of the table and bytes of the pool count, the last number of a name, the NS number that
+// the search goes on from, and how many rows are allowed.
 pub struct Sizes {
     pub rows: usize,
     pub bytes: usize,
+    pub names: u16,
+    pub free: u16,
+    pub limit: usize,
 }
 
-// Steps 1 and 2 for an element. Answers how many rows there are then, one more than the limit where
-// that is too many.
+// Steps 1 and 2 for an element. Answers how many rows there are then, one more than the limit where that
+// is too many.
 pub fn repair_element(
     table: &mut [u32],
-    pool: &[u8],
-    first: &[u32],
-    next: &[u32],
-    path: &[u32],
+    notes: &mut [u16],
+    tops: &mut [u16],
+    path: &mut [u16],
     element: Row,
     rows: usize,
     limit: usize,
 ) -> usize
-    requires { ⌜ At (now table) (now pool) (now first) (now next) (now path) rows limit (element .0) ⌝ }
-    requires { ⌜ Unique (rowsOf (now table) (now pool) rows) × Plain (node (rowsOf (now table) (now pool) rows) (element .0)) ⌝ }
-    ensures { λ r. ⌜ Stepped (now (table .exit)) rows limit r (repairElement (element .0) (rowsOf (now (table .entry)) (now (pool .entry)) rows)) ⌝ }
+    requires { ⌜ ((pool : List ℕ) × (bytes : ℕ) × (names : ℕ) × AtElement (now table) pool (now notes) (now tops) (now path) rows bytes names limit (element .0)) ⌝ }
+    ensures { λ r. ⌜ ((pool : List ℕ) (bytes names : ℕ) (h : AtElement (now (table .entry)) pool (now (notes .entry)) (now (tops .entry)) (now (path .entry)) rows bytes names limit (element .0)) → After (now (notes .entry)) (now (table .exit)) pool (now (notes .exit)) (now (tops .exit)) (now (path .exit)) r bytes names limit (element .0 + 1) (elementStep (element .0) (h .state))) ⌝ }
 {
-    let words = &table[..rules::WIDTH * rows];
-    if in_scope::element_means(words, pool, first, next, path, element) {
+    if bindings::element_settled(notes, tops, path, element) {
         return rows;
     }
-    let prefix = rows::field(words, pool, element, rules::PREFIX);
-    let own = in_scope::declarations::own(words, pool, first, next, element, prefix);
-    if rows::has_row(words, own) {
-        let uri = rows::place(words, element, rules::URI);
-        buffers::set_place(table, own, rules::VALUE, uri);
+    let own = bindings::own_declaration(&table[..rules::WIDTH * rows], notes, tops, element);
+    if own > 0 {
+        set_own(table, notes, tops, path, element, scopes::row_at(own), rows);
         return rows;
     }
-    declare_for(table, element, element, rows, limit)
+    append_own(table, notes, tops, path, element, rows, limit)
 }
 
-// Step 3 for an attribute of an element. Answers how many rows and bytes there are then, one more row
-// than the limit where that is too many.
-pub fn repair_attribute(
+// Sets an element's own declaration of its prefix to its URI.
+fn set_own(
     table: &mut [u32],
-    pool: &mut [u8],
-    first: &[u32],
-    next: &[u32],
-    path: &[u32],
+    notes: &mut [u16],
+    tops: &mut [u16],
+    path: &mut [u16],
     element: Row,
-    attribute: Row,
-    sizes: Sizes,
-    limit: usize,
-) -> Sizes
-    requires { ⌜ At (now table) (take (sizes .bytes) (now pool)) (now first) (now next) (now path) (sizes .rows) limit (element .0) ⌝ }
-    requires { ⌜ Attribute (rowsOf (now table) (take (sizes .bytes) (now pool)) (sizes .rows)) (element .0) (attribute .0) ⌝ }
-    requires { ⌜ (sizes .bytes + 6 ≤ length (now pool)) × (length (now pool) < 65536) ⌝ }
-    ensures { λ r. ⌜ Written (now (table .exit)) (now (pool .exit)) (sizes .rows) limit (r .rows) (r .bytes) (repairAttribute (element .0) (attribute .0) (meant (now (table .entry)) (now (pool .entry)) (sizes .rows) (sizes .bytes))) ⌝ }
+    declaration: Row,
+    rows: usize,
+)
+    requires { ⌜ AtOwn (now table) (now notes) (now tops) (now path) rows (element .0) (declaration .0) ⌝ }
+    ensures { λ _. ⌜ ((h : AtOwn (now (table .entry)) (now (notes .entry)) (now (tops .entry)) (now (path .entry)) rows (element .0) (declaration .0)) → Good (now (table .exit)) (h .pool) (now (notes .exit)) (now (tops .exit)) (now (path .exit)) rows (h .bytes) (h .names) (h .limit) (element .0 + 1) (valued (declaration .0) (node (h .at .state .rows) (element .0) .uri) (h .at .state))) ⌝ }
+    ensures { λ _. ⌜ SameAttributes (now (notes .entry)) (now (notes .exit)) ⌝ }
 {
-    let rows = sizes.rows;
-    let bytes = sizes.bytes;
-    let decision = decision::decide(
-        &table[..rules::WIDTH * rows],
-        &pool[..bytes],
-        first,
-        next,
-        path,
-        attribute,
-    );
-    match decision {
-        Decision::Keep => Sizes { rows, bytes },
-        Decision::Take(place) => {
-            buffers::set_place(table, attribute, rules::PREFIX, place);
-            Sizes { rows, bytes }
-        }
-        Decision::Xml => {
-            let grown = prefix::take_new(table, pool, attribute, b"xml", bytes);
-            Sizes { rows, bytes: grown }
-        }
-        Decision::Xmlns => {
-            let grown = prefix::take_new(table, pool, attribute, b"xmlns", bytes);
-            Sizes { rows, bytes: grown }
-        }
-        Decision::Declare => {
-            let count = declare_for(table, element, attribute, rows, limit);
-            Sizes { rows: count, bytes }
-        }
-        Decision::Number => {
-            let grown = prefix::take_numbered(
-                table,
-                pool,
-                first,
-                next,
-                path,
-                attribute,
-                rows,
-                bytes,
-            );
-            let count = declare_for(table, element, attribute, rows, limit);
-            Sizes {
-                rows: count,
-                bytes: grown,
-            }
-        }
-    }
+    let position = element.0 as u16 + 1;
+    scopes::leave(&table[..rules::WIDTH * rows], notes, tops, path, position);
+    changes::set_value(table, notes, element, declaration, rows);
+    scopes::enter(&table[..rules::WIDTH * rows], notes, tops, path, position);
 }
 
-// Appends the declaration that a row needs: of its prefix, as its URI. Answers how many rows there
-// are then, one more than the limit where that is too many.
-fn declare_for(table: &mut [u32], owner: Row, row: Row, rows: usize, limit: usize) -> usize
-    requires { ⌜ Room (now table) rows limit ⌝ }
-    requires { ⌜ row .0 < rows ⌝ }
-    ensures { λ r. ⌜ ((ns : List Node) → take (WIDTH * rows) (now (table .entry)) ≡ words ns → Stepped (now (table .exit)) rows limit r (ns ++ newDeclaration (owner .0) (node ns (row .0) .prefix) (node ns (row .0) .uri) ∷ [])) ⌝ }
+// Appends a declaration of an element's prefix as its URI. Answers how many rows there are then, one more
+// than the limit where that is too many.
+fn append_own(
+    table: &mut [u32],
+    notes: &mut [u16],
+    tops: &mut [u16],
+    path: &mut [u16],
+    element: Row,
+    rows: usize,
+    limit: usize,
+) -> usize
+    requires { ⌜ ((names : ℕ) × Undeclared (now table) (now notes) (now tops) (now path) rows names limit (element .0)) ⌝ }
+    ensures { λ r. ⌜ ((names : ℕ) (h : Undeclared (now (table .entry)) (now (notes .entry)) (now (tops .entry)) (now (path .entry)) rows names limit (element .0)) → After (now (notes .entry)) (now (table .exit)) (h .pool) (now (notes .exit)) (now (tops .exit)) (now (path .exit)) r (h .bytes) names limit (element .0 + 1) (declaredFor (element .0) (element .0) (h .at .state))) ⌝ }
 {
     if limit <= rows {
         return limit + 1;
     }
-    let words = &table[..rules::WIDTH * rows];
-    let prefix = rows::place(words, row, rules::PREFIX);
-    let uri = rows::place(words, row, rules::URI);
-    buffers::append_row(table, Row(rows as u32), owner, prefix, uri);
+    let position = element.0 as u16 + 1;
+    scopes::leave(&table[..rules::WIDTH * rows], notes, tops, path, position);
+    changes::write_declaration(table, notes, element, element, rows);
+    let words = &table[..rules::WIDTH * (rows + 1)];
+    scopes::link(words, notes, Row(rows as u32));
+    scopes::enter(words, notes, tops, path, position);
     rows + 1
+}
+
+// Appends the declaration of an attribute's prefix as its URI, for its owner, and puts it on top.
+fn append_on_top(
+    table: &mut [u32],
+    notes: &mut [u16],
+    tops: &mut [u16],
+    path: &mut [u16],
+    attribute: Row,
+    rows: usize,
+)
+    requires { ⌜ AtTop (now table) (now notes) (now tops) (now path) rows (attribute .0) ⌝ }
+    ensures { λ _. ⌜ ((h : AtTop (now (table .entry)) (now (notes .entry)) (now (tops .entry)) (now (path .entry)) rows (attribute .0)) → Good (now (table .exit)) (h .pool) (now (notes .exit)) (now (tops .exit)) (now (path .exit)) (rows + 1) (h .bytes) (h .names) (h .limit) (h .owner + 1) (declaredFor (h .owner) (attribute .0) (h .state))) ⌝ }
+    ensures { λ _. ⌜ SameAttributes (now (notes .entry)) (now (notes .exit)) ⌝ }
+{
+    let owner = rows::parent(&table[..rules::WIDTH * rows], attribute);
+    changes::write_declaration(table, notes, owner, attribute, rows);
+    scopes::declare(
+        &table[..rules::WIDTH * (rows + 1)],
+        notes,
+        tops,
+        path,
+        owner.0 as u16 + 1,
+    );
+}
+
+// Step 3 for an attribute of the element at which the path stands.
+pub fn repair_attribute(
+    table: &mut [u32],
+    pool: &mut [u8],
+    notes: &mut [u16],
+    tops: &mut [u16],
+    path: &mut [u16],
+    attribute: Row,
+    sizes: Sizes,
+) -> Sizes
+    requires { ⌜ AtAttribute (now table) (now pool) (now notes) (now tops) (now path) (sizes .rows) (sizes .bytes) (sizes .names) (sizes .limit) (sizes .free) (attribute .0) ⌝ }
+    requires { ⌜ (sizes .bytes + 6 ≤ length (now pool)) × (length (now pool) < 65536) ⌝ }
+    ensures { λ r. ⌜ ((h : AtAttribute (now (table .entry)) (now (pool .entry)) (now (notes .entry)) (now (tops .entry)) (now (path .entry)) (sizes .rows) (sizes .bytes) (sizes .names) (sizes .limit) (sizes .free) (attribute .0)) → AfterAttribute (now (notes .entry)) (now (table .exit)) (now (pool .exit)) (now (notes .exit)) (now (tops .exit)) (now (path .exit)) (r .rows) (r .bytes) (r .names) (sizes .limit) (r .free) (h .owner) (repairAttribute (h .owner) (attribute .0) (h .state))) ⌝ }
+{
+    let rows = sizes.rows;
+    let bytes = sizes.bytes;
+    if bindings::attribute_settled(notes, tops, path, attribute) {
+        return sizes;
+    }
+    let words = &table[..rules::WIDTH * rows];
+    if names::is_xml_uri(rows::field(words, &pool[..bytes], attribute, rules::URI)) {
+        let grown = changes::take_xml(table, pool, notes, path, attribute, bytes);
+        return Sizes {
+            rows,
+            bytes: grown,
+            names: sizes.names,
+            free: sizes.free,
+            limit: sizes.limit,
+        };
+    }
+    let uri = notes::note(notes, attribute, notes::URI);
+    let found = scopes::stacks::serving(notes, tops, path, uri);
+    if found > 0 {
+        changes::take_prefix(table, notes, attribute, scopes::row_at(found), rows);
+        return sizes;
+    }
+    declare_attribute(table, pool, notes, tops, path, attribute, sizes)
+}
+
+// Step 3 for an attribute whose URI has no prefix in scope: appends a declaration of its prefix, if that
+// is not declared in scope, or of an NS prefix, which it takes.
+fn declare_attribute(
+    table: &mut [u32],
+    pool: &mut [u8],
+    notes: &mut [u16],
+    tops: &mut [u16],
+    path: &mut [u16],
+    attribute: Row,
+    sizes: Sizes,
+) -> Sizes
+    requires { ⌜ AtUnserved (now table) (now pool) (now notes) (now tops) (now path) (sizes .rows) (sizes .bytes) (sizes .names) (sizes .limit) (sizes .free) (attribute .0) ⌝ }
+    ensures { λ r. ⌜ ((h : AtUnserved (now (table .entry)) (now (pool .entry)) (now (notes .entry)) (now (tops .entry)) (now (path .entry)) (sizes .rows) (sizes .bytes) (sizes .names) (sizes .limit) (sizes .free) (attribute .0)) → AfterAttribute (now (notes .entry)) (now (table .exit)) (now (pool .exit)) (now (notes .exit)) (now (tops .exit)) (now (path .exit)) (r .rows) (r .bytes) (r .names) (sizes .limit) (r .free) (h .at .owner) (repairAttribute (h .at .owner) (attribute .0) (h .at .state))) ⌝ }
+{
+    let rows = sizes.rows;
+    let limit = sizes.limit;
+    if limit <= rows {
+        return Sizes {
+            rows: limit + 1,
+            bytes: sizes.bytes,
+            names: sizes.names,
+            free: sizes.free,
+            limit,
+        };
+    }
+    if changes::is_free(notes, tops, attribute) {
+        append_on_top(table, notes, tops, path, attribute, rows);
+        return Sizes {
+            rows: rows + 1,
+            bytes: sizes.bytes,
+            names: sizes.names,
+            free: sizes.free,
+            limit,
+        };
+    }
+    number_attribute(table, pool, notes, tops, path, attribute, sizes)
+}
+
+// Gives an attribute the NS prefix of the least number that is free in scope, and appends its
+// declaration.
+fn number_attribute(
+    table: &mut [u32],
+    pool: &mut [u8],
+    notes: &mut [u16],
+    tops: &mut [u16],
+    path: &mut [u16],
+    attribute: Row,
+    sizes: Sizes,
+) -> Sizes
+    requires { ⌜ AtUnserved (now table) (now pool) (now notes) (now tops) (now path) (sizes .rows) (sizes .bytes) (sizes .names) (sizes .limit) (sizes .free) (attribute .0) ⌝ }
+    requires { ⌜ (sizes .rows < sizes .limit) × (isFree (now notes) (now tops) (attribute .0) ≡ false) ⌝ }
+    ensures { λ r. ⌜ ((h : AtUnserved (now (table .entry)) (now (pool .entry)) (now (notes .entry)) (now (tops .entry)) (now (path .entry)) (sizes .rows) (sizes .bytes) (sizes .names) (sizes .limit) (sizes .free) (attribute .0)) → AfterAttribute (now (notes .entry)) (now (table .exit)) (now (pool .exit)) (now (notes .exit)) (now (tops .exit)) (now (path .exit)) (r .rows) (r .bytes) (r .names) (sizes .limit) (r .free) (h .at .owner) (repairAttribute (h .at .owner) (attribute .0) (h .at .state))) ⌝ }
+{
+    let rows = sizes.rows;
+    let names = sizes.names;
+    let k = bindings::least_unused(tops, path, sizes.free);
+    let number = changes::number_for(path, k, names);
+    let bytes = changes::take_numbered(table, pool, notes, attribute, k, number, sizes.bytes);
+    append_on_top(table, notes, tops, path, attribute, rows);
+    Sizes {
+        rows: rows + 1,
+        bytes,
+        names: larger(names, number),
+        free: k,
+        limit: sizes.limit,
+    }
+}
+
+// The larger of two numbers.
+fn larger(a: u16, b: u16) -> u16
+    ensures { λ r. ⌜ r ≡ max a b ⌝ }
+{
+    if a < b {
+        return b;
+    }
+    a
 }

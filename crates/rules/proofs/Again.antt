@@ -225,12 +225,15 @@ module _ (table pool : List ℕ) (a : Accepted table pool) where
   abbrev base : List Node
   base = nodes table pool
 
-  standing-start : Standing base (record { rows = base; pool = pool })
+  pub rows-passable : allOf isPassable base ≡ true
   unfolding node
+  rows-passable = allOf-every isPassable base noNode (λ r i. pass (node base r) (input-passable base (length pool) r (a .row r i)))
+
+  standing-start : Standing base (record { rows = base; pool = pool })
   standing-start =
       record {
         steady = steady-start table pool a;
-        passable = allOf-every isPassable base noNode (λ r i. pass (node base r) (input-passable base (length pool) r (a .row r i)));
+        passable = rows-passable;
         core = λ r i. core-refl (node base r);
         added = λ r l k. absurd (omega arith);
       }

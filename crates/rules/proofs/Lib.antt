@@ -2,6 +2,7 @@ pub mod Lists
 pub mod Table
 pub mod Utf8
 pub mod Refusals
+pub mod Declarations
 pub mod Accepted
 pub mod Scope
 pub mod Prefixes

@@ -414,11 +414,11 @@ module _ (a : Node) (attribute : a .type ≡ ATTRIBUTE) (p : Passable a) where
         }
 
 -- The scope of a row holds rows of the table, and declarations only.
-passable-scope : (ns : List Node) (e : ℕ) → allOf isPassable ns ≡ true → allOf isPassable (scopeAt ns e) ≡ true
+pub passable-scope : (ns : List Node) (e : ℕ) → allOf isPassable ns ≡ true → allOf isPassable (scopeAt ns e) ≡ true
 unfolding scopeAt scopeOf ownDeclarations
 passable-scope ns e h = allOf-gathered isPassable (ownDeclarations ns) (λ x. allOf-filtered isPassable (isDeclarationOf x) ns h) (elementsFrom ns e)
 
-scope-declarations : (ns : List Node) (e : ℕ) → allOf (λ (d : Node). eqb (d .type) DECLARATION) (scopeAt ns e) ≡ true
+pub scope-declarations : (ns : List Node) (e : ℕ) → allOf (λ (d : Node). eqb (d .type) DECLARATION) (scopeAt ns e) ≡ true
 unfolding scopeAt scopeOf ownDeclarations
 scope-declarations ns e =
     allOf-gathered (λ (d : Node). eqb (d .type) DECLARATION) (ownDeclarations ns)

@@ -82,7 +82,7 @@ unique-core ns ms l c u =
           u .same r r′ e prefix i₁ j₁ (sym (own-core e prefix (c r i₁)) ∙ p) (sym (own-core e prefix (c r′ j₁)) ∙ q);
     }
 
-node-last : (ns : List Node) (n : Node) → node (ns ++ n ∷ []) (length ns) ≡ n
+pub node-last : (ns : List Node) (n : Node) → node (ns ++ n ∷ []) (length ns) ≡ n
 unfolding node
 node-last ns n = getD-append-seam ns n [] noNode
 

@@ -1,5 +1,4 @@
 pub mod Allowed
 pub mod Before
-pub mod Links
+pub mod Children
 pub mod Parents
-pub mod Doubles

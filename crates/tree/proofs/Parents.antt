@@ -13,7 +13,7 @@ use Rattle.rules.specs.Table.{MOST-ROWS, NONE, TYPE, PARENT, DOCUMENT, Node, no
 use Rattle.rules.specs.Refusals.{parentRule, parentAllowed, secondElement, badStructure}
 use Rattle.rules.proofs.Table.{length-nodes, node-nodes}
 use Rattle.tree.specs.Parents.{NOTHING, lineOf, ruleAllows}
-use Rattle.tree.specs.Chains.{under, Latest}
+use Rattle.tree.specs.Children.{under, Latest}
 use Rattle.tree.proofs.Allowed.{allowed-under}
 use Rattle.tree.proofs.Before.{last-any, any-take}
 

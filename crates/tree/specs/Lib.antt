@@ -1,2 +1,2 @@
 pub mod Parents
-pub mod Chains
+pub mod Children

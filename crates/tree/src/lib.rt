@@ -1,5 +1,4 @@
-// Refusals 2 and 7: a row among the rows before it. A module for each refusal, and in it the test, and
-// the entering of a row that passed: arrays of links, which grow with the pass over the rows, lead to
-// the earlier rows under the same parent. NONE ends a chain.
-pub mod double;
+// Refusal 2: a row among the rows before it. In the module the test, and the entering of a row that
+// passed: an array, which grows with the pass over the rows, leads to the last element under each row.
+// NONE: there is none.
 pub mod structure;

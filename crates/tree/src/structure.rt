@@ -1,11 +1,12 @@
 // Refusal 2: an unknown type, a parent that is not allowed, or a document's second element.
 ghost use mathlib.Core.Path.{_≡_};
+ghost use mathlib.Core.Bool.{true};
 ghost use mathlib.Core.List.{List};
 ghost use Prim.Native.Nat.{ℕ, _+_, _≤_, _<_};
-ghost use Rattle.rules.specs.Table.{rowCount, nodes, isElement};
+ghost use Rattle.rules.specs.Table.{ELEMENT, rowCount, nodes, isElement};
 ghost use Rattle.rules.specs.Refusals.{parentRule, badStructure};
 ghost use Rattle.tree.specs.Parents.{NOTHING, lineOf, ruleAllows, Right};
-ghost use Rattle.tree.specs.Chains.{Latest, ParentBefore};
+ghost use Rattle.tree.specs.Children.{Latest, ParentBefore};
 use rows::wide;
 use rules::Row;
 
@@ -59,6 +60,9 @@ pub fn bad(table: &[u32], children: &[u32], row: Row) -> bool
         return true;
     }
     let above = rows::kind(table, parent);
+    if is_usual(kind, above) {
+        return false;
+    }
     if !allows(kind, line(above)) {
         return true;
     }
@@ -82,6 +86,14 @@ pub fn add(table: &[u32], children: &mut [u32], row: Row)
             children[wide(parent.0)] = row.0;
         }
     }
+}
+
+// An element, an attribute or a text under an element, as most rows are, stands where it may.
+fn is_usual(kind: u32, above: u32) -> bool
+    ensures { λ r. ⌜ (r ≡ true → (above ≡ ELEMENT) × (ruleAllows (parentRule kind) (lineOf above) ≡ true)) ⌝ }
+{
+    (above == rules::ELEMENT)
+        & ((kind == rules::ELEMENT) | (kind == rules::ATTRIBUTE) | (kind == rules::TEXT))
 }
 
 // A row of this type may stand under a row of the line above, or under nothing.

@@ -1,43 +1,53 @@
--- `checker::check_rows` meets its contract. The invariant: the rows that are left decide.
+-- `checker::check_rows` meets its contract. The invariant: the names of the rows before have their numbers, and the rows that
+-- are left decide.
 -- Assumes nothing.
 use Prim.Native.Nat.{_-_, _<_}
-use mathlib.Core.Path.{sym, _∙_}
+use mathlib.Core.Path.{refl, sym, _∙_}
 use native.Mathlib.Omega.{arith}
 use borrow.Author.Tests.{ltb-true, ltb-false}
+use borrow.Author.Needs.{needs}
 use denote.Ref.{now}
 use Rattle.rules.specs.Table.{rowCount}
-use Rattle.checker.proofs.Pass.{Going, going-start, going-end, going-layout, going-names, going-before, going-next}
-use borrow.Author.Needs.{needs}
+use Rattle.checker.proofs.Pass.{Going, Enough, enough, going-start, going-end, going-named, going-refused, going-room, going-numbered, going-owned, going-kept, going-next, refused-place, passed-fields, parent-before, refused-names, refused-double, refused-none, not-accepted}
 use Rattle.checker.proofs.check_rows.Statement.{statement}
 use Rattle.checker.proofs.check_rows.Tie as tie
 
 abbrev Inv-loop : tie.InvT-loop
-Inv-loop table pool children₀ latest₀ previous₀ r₀ children latest previous r = Going table pool children latest previous r
+Inv-loop table pool dictionary₀ notes₀ ascii children₀ chains₀ r₀ dictionary notes children chains r =
+    Going table pool dictionary₀ notes₀ dictionary notes children chains r
 
 abbrev μ-loop : tie.MeasureT-loop
-μ-loop table pool children₀ latest₀ previous₀ r₀ children latest previous r = rowCount table - r
+μ-loop table pool dictionary₀ notes₀ ascii children₀ chains₀ r₀ dictionary notes children chains r =
+    rowCount table - r
 
 -- In the loop the row is one of the table's.
 abbrev start : tie.Then1 Inv-loop μ-loop → tie.Start Inv-loop μ-loop
-start c = c .before .before .before .before .before
+start c = c .before .before .before .before .before .before .before .before
 
 inside : (c : tie.Then1 Inv-loop μ-loop) → c .before .before .loop .r < rowCount (now (start c .args .table))
-inside c =
-    ltb-true (c .before .before .loop .r) (rowCount (now (start c .args .table))) (sym (c .before .has-row .ensures) ∙ c .if1 .taken)
+inside c = ltb-true (c .before .before .loop .r) (rowCount (now (start c .args .table))) (sym (c .before .has-row .ensures) ∙ c .if1 .taken)
+
+arrays : (s : tie.Start Inv-loop μ-loop) → Enough (now (s .args .table)) (now (s .args .pool)) (now (s .args .dictionary)) (now (s .args .notes))
+arrays s = enough (now (s .args .table)) (now (s .args .pool)) (now (s .args .dictionary)) (now (s .args .notes)) (s .pre .0 .0) (s .pre .0 .1) (s .pre .1)
+
+is-ascii-requires : tie.Need-is-ascii-requires Inv-loop μ-loop
+is-ascii-requires c κs = search needs
 
 loop-holds : tie.Need-loop-holds Inv-loop μ-loop
-loop-holds c = going-start (now (c .before .before .args .table)) (now (c .before .before .args .pool)) (c .before .before .pre)
+loop-holds c =
+    let s = c .before .before .before .before .before in
+    going-start (now (s .args .table)) (now (s .args .pool)) (now (s .args .dictionary)) (now (s .args .notes)) (arrays s) (s .pre .1 .cleared)
 
 has-row-requires : tie.Need-has-row-requires Inv-loop μ-loop
 has-row-requires c κs = search needs
 
-slice-aggregate-check-layout : tie.Need-slice-aggregate-check-layout Inv-loop μ-loop
-slice-aggregate-check-layout c = sym (c .before .before .before .loop .inv .seen .elements .size)
+slice-aggregate-check-place : tie.Need-slice-aggregate-check-place Inv-loop μ-loop
+slice-aggregate-check-place c = sym (c .before .before .before .loop .inv .elements .size)
 
-check-layout-requires : tie.Need-check-layout-requires Inv-loop μ-loop
-check-layout-requires c κs =
+check-place-requires : tie.Need-check-place-requires Inv-loop μ-loop
+check-place-requires c κs =
     let t = c .before in
-    (inside t, t .before .before .loop .inv .seen .elements)
+    (inside t, t .before .before .loop .inv .elements)
 
 enum-told : tie.Need-enum-told Inv-loop μ-loop
 enum-told c = search needs
@@ -45,33 +55,37 @@ enum-told c = search needs
 enum-told-2 : tie.Need-enum-told-2 Inv-loop μ-loop
 enum-told-2 c = search needs
 
-unless-malformed-requires : tie.Need-unless-malformed-requires Inv-loop μ-loop
-unless-malformed-requires c κs =
-    let t = c .before .before .before .before in
-    t .before .before .loop .inv .bound
+same-length : tie.Need-same-length Inv-loop μ-loop
+same-length c = c .before .before .before .before .before .before .loop .inv .words
+
+same-length-2 : tie.Need-same-length-2 Inv-loop μ-loop
+same-length-2 c = c .before .before .before .before .before .before .loop .inv .records
 
 returns : tie.Need-returns Inv-loop μ-loop
 returns c =
-    let m = c .before in
-    let k = m .before .before in
-    let t = k .before .before in
+    let t = c .before .before .before .before in
     let s = start t in
-    going-layout (now (s .args .table)) (now (s .args .pool)) (t .before .before .loop .inv) (inside t) (k .check-layout .ensures) _ (m .enum-told2 .given .1) (c .unless-malformed .ensures)
+    let l = t .before .before .loop in
+    let x = c .enum-told2 .given .1 in
+    (x ∙ going-refused (l .inv) (inside t) _ (refused-place (now (s .args .table)) (now (s .args .pool)) (l .r) (inside t) (c .before .before .check-place .ensures) _ x), (not-accepted _ x, l .inv .kept))
 
-slice-aggregate-check-names : tie.Need-slice-aggregate-check-names Inv-loop μ-loop
-slice-aggregate-check-names c = sym (c .before .before .before .before .before .before .before .loop .inv .seen .owned .heads .size)
-
-slice-aggregate-check-names-2 : tie.Need-slice-aggregate-check-names-2 Inv-loop μ-loop
-slice-aggregate-check-names-2 c = sym (c .before .before .before .before .before .before .before .before .loop .inv .seen .owned .size)
-
-check-names-requires : tie.Need-check-names-requires Inv-loop μ-loop
-check-names-requires c κs =
+number-requires : tie.Need-number-requires Inv-loop μ-loop
+number-requires c κs =
+    let t = c .before .before .before .before .before .before in
+    let s = start t in
+    let l = t .before .before .loop in
+    let p = c .before .before .before .before in
     let e = c .before .before in
-    let k = e .before .before in
-    let t = k .before .before in
-    let s = start t in
-    let g = t .before .before .loop .inv in
-    (inside t, (going-before (now (s .args .table)) (now (s .args .pool)) g (inside t) (k .check-layout .ensures) (e .enum-told .given .1), g .seen .owned))
+    let g = l .inv in
+    let a = arrays s in (
+      (inside t, rw (g .records) (a .records)),
+      ((a .bytes, passed-fields (now (s .args .table)) (now (s .args .pool)) (l .r) (inside t) (p .check-place .ensures) (e .enum-told .given .1)), (g .right, going-room g (inside t) a)),
+    )
+
+check-requires : tie.Need-check-requires Inv-loop μ-loop
+check-requires c κs =
+    let t = c .before .before .before .before .before .before .before .before .before .before .before in
+    (inside t, (t .before .before .before .is-ascii .ensures, c .before .before .before .before .number .ensures .1))
 
 enum-told-3 : tie.Need-enum-told-3 Inv-loop μ-loop
 enum-told-3 c = search needs
@@ -79,83 +93,105 @@ enum-told-3 c = search needs
 enum-told-4 : tie.Need-enum-told-4 Inv-loop μ-loop
 enum-told-4 c = search needs
 
-add-unless-malformed : tie.Need-add-unless-malformed Inv-loop μ-loop
-add-unless-malformed c =
-    let t = c .before .before .before .before .before .before .before .before .before in
-    omega (arith, inside t, t .before .before .loop .inv .seen .elements .few)
+same-length-3 : tie.Need-same-length-3 Inv-loop μ-loop
+same-length-3 c = c .before .before .before .before .before .before .before .number .kept .1 .1 .0 ∙ c .before .before .before .before .before .before .before .before .before .before .before .before .before .before .before .before .loop .inv .words
 
-unless-malformed-requires-2 : tie.Need-unless-malformed-requires-2 Inv-loop μ-loop
-unless-malformed-requires-2 c κs =
-    let t = c .before .before .before .before .before .before .before .before .before in
-    omega (arith, inside t)
+same-length-4 : tie.Need-same-length-4 Inv-loop μ-loop
+same-length-4 c = c .before .before .before .before .before .before .before .number .kept .1 .1 .1 .0 ∙ c .before .before .before .before .before .before .before .before .before .before .before .before .before .before .before .before .loop .inv .records
 
 returns-2 : tie.Need-returns-2 Inv-loop μ-loop
 returns-2 c =
-    let m = c .before in
-    let n = m .before .before in
-    let e = n .before .before .before in
-    let k = e .before .before in
-    let t = k .before .before in
+    let t = c .before .before .before .before .before .before .before .before .before .before .before .before .before .before in
     let s = start t in
-    going-names (now (s .args .table)) (now (s .args .pool)) (t .before .before .loop .inv) (inside t) (k .check-layout .ensures) (e .enum-told .given .1) (n .check-names .ensures) _ (m .enum-told4 .given .1) (c .unless-malformed2 .ensures)
+    let l = t .before .before .loop in
+    let p = c .before .before .before .before .before .before .before .before .before .before .before .before in
+    let e = c .before .before .before .before .before .before .before .before .before .before in
+    let n = c .before .before .before .before .before .before .before .number in
+    let x = c .enum-told4 .given .1 in (
+      x ∙ going-refused (l .inv) (inside t) _ (refused-names (now (s .args .table)) (now (s .args .pool)) (l .r) (inside t) (p .check-place .ensures) (e .enum-told .given .1) (c .before .before .check .ensures) _ x),
+      (not-accepted _ x, going-kept (l .inv) (inside t) (n .ensures .0) (n .kept .1 .1 .1 .0)),
+    )
 
 slice-aggregate-add : tie.Need-slice-aggregate-add Inv-loop μ-loop
-slice-aggregate-add c = sym (c .before .before .before .before .before .before .before .before .before .before .before .before .loop .inv .seen .elements .size)
+slice-aggregate-add c = sym (c .before .before .before .before .before .before .before .before .before .before .before .before .before .before .before .before .before .before .loop .inv .links)
 
 add-requires : tie.Need-add-requires Inv-loop μ-loop
 add-requires c κs =
-    let e = c .before .before .before .before .before .before in
-    let k = e .before .before in
-    let t = k .before .before in
-    let s = start t in
-    let g = t .before .before .loop .inv in
-    (inside t, (going-before (now (s .args .table)) (now (s .args .pool)) g (inside t) (k .check-layout .ensures) (e .enum-told .given .1), g .seen .elements))
+    let t = c .before .before .before .before .before .before .before .before .before .before .before .before .before .before .before .before in
+    let n = c .before .before .before .before .before .before .before .before .before .number in
+    (inside t, going-owned (t .before .before .loop .inv) (inside t) (n .ensures .0) (n .kept .1 .1 .1 .0))
 
-slice-aggregate-add-2 : tie.Need-slice-aggregate-add-2 Inv-loop μ-loop
-slice-aggregate-add-2 c = sym (c .before .before .before .before .before .before .before .before .before .before .before .before .before .before .before .loop .inv .seen .owned .heads .size)
+same-length-5 : tie.Need-same-length-5 Inv-loop μ-loop
+same-length-5 c = c .before .before .before .before .before .before .before .before .before .before .before .before .number .kept .1 .1 .0 ∙ c .before .before .before .before .before .before .before .before .before .before .before .before .before .before .before .before .before .before .before .before .before .loop .inv .words
 
-slice-aggregate-add-3 : tie.Need-slice-aggregate-add-3 Inv-loop μ-loop
-slice-aggregate-add-3 c = sym (c .before .before .before .before .before .before .before .before .before .before .before .before .before .before .before .before .loop .inv .seen .owned .size)
-
-add-requires-2 : tie.Need-add-requires-2 Inv-loop μ-loop
-add-requires-2 c κs =
-    let e = c .before .before .before .before .before .before .before .before .before .before in
-    let k = e .before .before in
-    let t = k .before .before in
-    let s = start t in
-    let g = t .before .before .loop .inv in
-    (inside t, (going-before (now (s .args .table)) (now (s .args .pool)) g (inside t) (k .check-layout .ensures) (e .enum-told .given .1), g .seen .owned))
-
-add-r : tie.Need-add-r Inv-loop μ-loop
-add-r c =
-    let t = c .before .before .before .before .before .before .before .before .before .before .before .before .before .before .before .before .before in
-    omega (arith, inside t, t .before .before .loop .inv .seen .elements .few)
-
-loop-less : tie.Need-loop-less Inv-loop μ-loop
-loop-less c = omega (arith, inside (c .before .before .before .before .before .before .before .before .before .before .before .before .before .before .before .before .before))
-
-loop-again : tie.Need-loop-again Inv-loop μ-loop
-loop-again c =
-    let d = c .before .before in
-    let a = d .before .before .before .before in
-    let o = a .before .before in
-    let n = o .before .before in
-    let e = n .before .before .before in
-    let k = e .before .before in
-    let t = k .before .before in
-    let s = start t in
-    going-next (now (s .args .table)) (now (s .args .pool)) (t .before .before .loop .inv) (inside t) (k .check-layout .ensures) (e .enum-told .given .1) (n .check-names .ensures) (o .enum-told3 .given .1) (record { elements = a .add .ensures; owned = d .add2 .ensures })
-
-unless-malformed-requires-3 : tie.Need-unless-malformed-requires-3 Inv-loop μ-loop
-unless-malformed-requires-3 c κs = c .before .before .loop .inv .bound
+same-length-6 : tie.Need-same-length-6 Inv-loop μ-loop
+same-length-6 c = c .before .before .before .before .before .before .before .before .before .before .before .before .number .kept .1 .1 .1 .0 ∙ c .before .before .before .before .before .before .before .before .before .before .before .before .before .before .before .before .before .before .before .before .before .loop .inv .records
 
 returns-3 : tie.Need-returns-3 Inv-loop μ-loop
 returns-3 c =
-    let e = c .before in
-    let l = e .before .before in
-    let s = l .before .before .before in
-    going-end (now (s .args .table)) (now (s .args .pool)) (l .loop .inv)
-    (ltb-false (l .loop .r) (rowCount (now (s .args .table))) (sym (e .before .has-row .ensures) ∙ e .if1 .left)) (c .unless-malformed3 .ensures)
+    let t = c .before .before .before .before .before .before .before .before .before .before .before .before .before .before .before .before .before .before .before in
+    let s = start t in
+    let l = t .before .before .loop in
+    let p = c .before .before .before .before .before .before .before .before .before .before .before .before .before .before .before .before .before in
+    let e = c .before .before .before .before .before .before .before .before .before .before .before .before .before .before .before in
+    let n = c .before .before .before .before .before .before .before .before .before .before .before .before .number in
+    let k = c .before .before .before .before .before .before .before in
+    let f = c .before .before .before .before .before in
+    let a = c .before .before .add in
+    let h = n .kept .1 .1 .1 .0 in
+    let d = a .ensures .1 _ _ _ (going-numbered (l .inv) (inside t) (n .ensures .0) h) in (
+      going-refused (l .inv) (inside t) _ (refused-double (now (s .args .table)) (now (s .args .pool)) (l .r) (inside t) (p .check-place .ensures) (e .enum-told .given .1) (k .check .ensures) (f .enum-told3 .given .1) (sym d ∙ c .if2 .taken)),
+      (not-accepted _ refl, going-kept (l .inv) (inside t) (n .ensures .0) h),
+    )
+
+slice-aggregate-add-2 : tie.Need-slice-aggregate-add-2 Inv-loop μ-loop
+slice-aggregate-add-2 c = sym (c .before .before .before .before .before .before .before .before .before .before .before .before .before .before .before .before .before .before .before .before .before .before .loop .inv .elements .size)
+
+add-requires-2 : tie.Need-add-requires-2 Inv-loop μ-loop
+add-requires-2 c κs =
+    let t = c .before .before .before .before .before .before .before .before .before .before .before .before .before .before .before .before .before .before .before .before in
+    let s = start t in
+    let l = t .before .before .loop in
+    let p = c .before .before .before .before .before .before .before .before .before .before .before .before .before .before .before .before .before .before in
+    let e = c .before .before .before .before .before .before .before .before .before .before .before .before .before .before .before .before in
+    (inside t, (parent-before (now (s .args .table)) (now (s .args .pool)) (l .r) (inside t) (p .check-place .ensures) (e .enum-told .given .1), l .inv .elements))
+
+add-r : tie.Need-add-r Inv-loop μ-loop
+add-r c =
+    let t = c .before .before .before .before .before .before .before .before .before .before .before .before .before .before .before .before .before .before .before .before .before .before in
+    omega (arith, inside t, start t .pre .0 .0)
+
+loop-less : tie.Need-loop-less Inv-loop μ-loop
+loop-less c = omega (arith, inside (c .before .before .before .before .before .before .before .before .before .before .before .before .before .before .before .before .before .before .before .before .before .before))
+
+loop-again : tie.Need-loop-again Inv-loop μ-loop
+loop-again c =
+    let t = c .before .before .before .before .before .before .before .before .before .before .before .before .before .before .before .before .before .before .before .before .before .before in
+    let s = start t in
+    let l = t .before .before .loop in
+    let p = c .before .before .before .before .before .before .before .before .before .before .before .before .before .before .before .before .before .before .before .before in
+    let e = c .before .before .before .before .before .before .before .before .before .before .before .before .before .before .before .before .before .before in
+    let n = c .before .before .before .before .before .before .before .before .before .before .before .before .before .before .before .number in
+    let k = c .before .before .before .before .before .before .before .before .before .before in
+    let f = c .before .before .before .before .before .before .before .before in
+    let a = c .before .before .before .before .before .add in
+    let h = n .kept .1 .1 .1 .0 in
+    let d = a .ensures .1 _ _ _ (going-numbered (l .inv) (inside t) (n .ensures .0) h) in
+    going-next (l .inv) (inside t) (n .ensures .0) h (c .before .add2 .ensures) (a .ensures .0)
+    (refused-none (now (s .args .table)) (now (s .args .pool)) (l .r) (inside t) (p .check-place .ensures) (e .enum-told .given .1) (k .check .ensures) (f .enum-told3 .given .1) (sym d ∙ c .before .before .before .if2 .left)) (n .kept .1 .1 .0) (a .kept .1 .1 .0)
+
+same-length-7 : tie.Need-same-length-7 Inv-loop μ-loop
+same-length-7 c = c .before .before .loop .inv .words
+
+same-length-8 : tie.Need-same-length-8 Inv-loop μ-loop
+same-length-8 c = c .before .before .loop .inv .records
+
+returns-4 : tie.Need-returns-4 Inv-loop μ-loop
+returns-4 c =
+    let l = c .before .before .loop in
+    let s = c .before .before .before .before .before .before .before .before in
+    let end = ltb-false (l .r) (rowCount (now (s .args .table))) (sym (c .before .has-row .ensures) ∙ c .if1 .left) in
+    (going-end (l .inv) end, (λ a. going-named (l .inv) end, l .inv .kept))
 
 pub check-rows-spec : {M : Type 1} → statement M
 check-rows-spec =
@@ -163,29 +199,33 @@ check-rows-spec =
     (tie.spec
     Inv-loop
     μ-loop
+    is-ascii-requires
     loop-holds
     has-row-requires
-    slice-aggregate-check-layout
-    check-layout-requires
+    slice-aggregate-check-place
+    check-place-requires
     enum-told
     enum-told-2
-    unless-malformed-requires
+    same-length
+    same-length-2
     returns
-    slice-aggregate-check-names
-    slice-aggregate-check-names-2
-    check-names-requires
+    number-requires
+    check-requires
     enum-told-3
     enum-told-4
-    add-unless-malformed
-    unless-malformed-requires-2
+    same-length-3
+    same-length-4
     returns-2
     slice-aggregate-add
     add-requires
+    same-length-5
+    same-length-6
+    returns-3
     slice-aggregate-add-2
-    slice-aggregate-add-3
     add-requires-2
     add-r
     loop-less
     loop-again
-    unless-malformed-requires-3
-    returns-3)
+    same-length-7
+    same-length-8
+    returns-4)

@@ -1,69 +1,50 @@
 -- `lookups::in_scope_uri` meets its contract.
 -- Assumes nothing.
 use borrow.Author.Needs.{needs}
-use mathlib.Core.Path.{refl, sym, _∙_}
-use lib.Seq.{length-take-le}
-use Rattle.lookups.proofs.Beginning.{in-scope-uri-along, in-scope-uri-nothing, in-scope-uri-refused}
+use Rattle.rules.specs.Table.{MOST-ROWS}
+use Rattle.checker.specs.Lent.{FEW-ROWS}
+use Rattle.beginning.proofs.Beginning.{at-most}
+use Rattle.lookups.proofs.Going.{arrays}
 use Rattle.lookups.proofs.in_scope_uri.Statement.{statement}
 use Rattle.lookups.proofs.in_scope_uri.Tie as tie
 
-slice-aggregate-begin : tie.Need-slice-aggregate-begin
-slice-aggregate-begin c = refl
+row-count-requires : tie.Need-row-count-requires
+row-count-requires c κs = search needs
 
-slice-aggregate-begin-2 : tie.Need-slice-aggregate-begin-2
-slice-aggregate-begin-2 c = refl
+slice-aggregate-in-scope-uri-in : tie.Need-slice-aggregate-in-scope-uri-in
+slice-aggregate-in-scope-uri-in c = search needs
 
-slice-aggregate-begin-3 : tie.Need-slice-aggregate-begin-3
-slice-aggregate-begin-3 c = refl
+slice-aggregate-in-scope-uri-in-2 : tie.Need-slice-aggregate-in-scope-uri-in-2
+slice-aggregate-in-scope-uri-in-2 c = search needs
 
-begin-requires : tie.Need-begin-requires
-begin-requires c κs = (refl, refl, refl)
-
-enum-known-begun : tie.Need-enum-known-begun
-enum-known-begun c = search needs
+in-scope-uri-in-requires : tie.Need-in-scope-uri-in-requires
+in-scope-uri-in-requires c κs = arrays (c .before .before .before .before .before .before .before .args .table .now) FEW-ROWS (λ h. at-most _ _ _ (c .before .before .before .row-count .ensures) (c .before .before .if1 .taken))
 
 returns : tie.Need-returns
-returns c = in-scope-uri-nothing _ _ _ _ _ _ _ _ (c .before .before .before .before .before .before .before .begin .ensures .0 _ (c .before .before .begun .given .1)) (c .if1 .taken)
+returns c = c .before .before .in-scope-uri-in .ensures
 
-slice-aggregate-in-scope-uri : tie.Need-slice-aggregate-in-scope-uri
-slice-aggregate-in-scope-uri c = search needs
+slice-aggregate-in-scope-uri-in-3 : tie.Need-slice-aggregate-in-scope-uri-in-3
+slice-aggregate-in-scope-uri-in-3 c = search needs
 
-slice-aggregate-in-scope-uri-2 : tie.Need-slice-aggregate-in-scope-uri-2
-slice-aggregate-in-scope-uri-2 c = search needs
+slice-aggregate-in-scope-uri-in-4 : tie.Need-slice-aggregate-in-scope-uri-in-4
+slice-aggregate-in-scope-uri-in-4 c = search needs
 
-array-share-prefix-path : tie.Need-array-share-prefix-path
-array-share-prefix-path c = c .before .before .before .before .before .before .before .before .before .begin .ensures .0 _ (c .before .before .before .before .begun .given .1) .room
-
-slice-aggregate-in-scope-uri-3 : tie.Need-slice-aggregate-in-scope-uri-3
-slice-aggregate-in-scope-uri-3 c = sym (length-take-le _ _ (c .before .before .before .before .before .before .before .before .before .before .begin .ensures .0 _ (c .before .before .before .before .before .begun .given .1) .room))
-
-in-scope-uri-requires : tie.Need-in-scope-uri-requires
-in-scope-uri-requires c κs = c .before .before .before .before .before .before .before .before .before .before .begin .ensures .0 _ (c .before .before .before .before .before .begun .given .1) .along
-
-enum-known-begun-2 : tie.Need-enum-known-begun-2
-enum-known-begun-2 c = search needs
+in-scope-uri-in-requires-2 : tie.Need-in-scope-uri-in-requires-2
+in-scope-uri-in-requires-2 c κs = arrays (c .before .before .before .before .before .before .before .args .table .now) MOST-ROWS (λ h. h)
 
 returns-2 : tie.Need-returns-2
-returns-2 c = c .in-scope-uri .ensures ∙ in-scope-uri-along _ _ _ _ _ _ _ _ (c .before .before .before .before .before .before .before .before .before .before .before .begin .ensures .0 _ (c .before .before .before .before .before .before .begun .given .1)) (c .before .before .before .before .if1 .left)
-
-returns-3 : tie.Need-returns-3
-returns-3 c = in-scope-uri-refused _ _ _ _ _ (c .before .before .before .before .before .before .begin .ensures .1 _ (c .before .begun2 .given .1))
+returns-2 c = c .before .before .in-scope-uri-in2 .ensures
 
 pub in-scope-uri-spec : {M : Type 1} → statement M
 in-scope-uri-spec =
     tie.close
     (tie.spec
-    slice-aggregate-begin
-    slice-aggregate-begin-2
-    slice-aggregate-begin-3
-    begin-requires
-    enum-known-begun
+    row-count-requires
+    slice-aggregate-in-scope-uri-in
+    slice-aggregate-in-scope-uri-in-2
+    in-scope-uri-in-requires
     returns
-    slice-aggregate-in-scope-uri
-    slice-aggregate-in-scope-uri-2
-    array-share-prefix-path
-    slice-aggregate-in-scope-uri-3
-    in-scope-uri-requires
-    enum-known-begun-2
-    returns-2
-    returns-3)
+    slice-aggregate-in-scope-uri-in-3
+    slice-aggregate-in-scope-uri-in-4
+    in-scope-uri-in-requires-2
+    returns-2)

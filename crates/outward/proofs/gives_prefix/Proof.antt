@@ -1,26 +1,33 @@
 -- `outward::gives_prefix` meets its contract.
 -- Assumes nothing.
-use borrow.Author.Needs.{needs}
-use mathlib.Core.Path.{sym, _∙_}
+use native.Mathlib.Omega.{arith}
+use mathlib.Core.Path.{_∙_}
+use Rattle.declarations.proofs.Meanings.{local-names, meant-too}
 use Rattle.outward.proofs.Tests.{gives-by, gives-other}
 use Rattle.outward.proofs.gives_prefix.Statement.{statement}
 use Rattle.outward.proofs.gives_prefix.Tie as tie
 
-field-is-requires : tie.Need-field-is-requires
-field-is-requires c κs = search needs
+note-requires : tie.Need-note-requires
+note-requires c κs = let s = c .before .before .before in omega (arith, s .pre .0 .ready .noted, s .pre .1 .0)
+
+note-requires-2 : tie.Need-note-requires-2
+note-requires-2 c κs = let s = c .before .before .before .before .before in omega (arith, s .pre .0 .ready .noted, s .pre .1 .0)
 
 leads-to-requires : tie.Need-leads-to-requires
-leads-to-requires c κs = search needs
+leads-to-requires c κs = c .before .before .before .before .before .before .pre .0
 
 returns : tie.Need-returns
-returns c =
-    let s = c .before .before .before .before .before .before .before .before .before in
-    c .leads-to .ensures ∙ gives-by (s .args .table .now) (s .args .pool .now) (s .args .declaration .0) (s .args .path .now) (s .args .uri .now) (sym (c .before .before .field-is .ensures) ∙ c .before .if1 .taken)
+returns c pool name meant =
+    let s = c .before .before .before .before .before .before .before in
+    let own = local-names meant _ (s .pre .1 .0) in
+    c .leads-to .ensures pool name _ meant (rw (← c .before .note2 .ensures) at (meant-too meant own))
+    ∙ gives-by meant _ (s .pre .1 .0) (s .pre .1 .1) (s .args .path .now) _ (c .before .before .before .note .ensures) (c .before .before .if1 .taken)
 
 returns-2 : tie.Need-returns-2
-returns-2 c =
-    let s = c .before .before .before .before .before .before .before .before in
-    gives-other (s .args .table .now) (s .args .pool .now) (s .args .declaration .0) (s .args .path .now) (s .args .uri .now) (sym (c .before .field-is .ensures) ∙ c .if1 .left)
+returns-2 c pool name meant =
+    let s = c .before .before .before .before .before in
+    gives-other meant _ (s .pre .1 .0) (s .pre .1 .1) (s .args .path .now) _ (c .before .note .ensures) (c .if1 .left)
 
 pub gives-prefix-spec : {M : Type 1} → statement M
-gives-prefix-spec = tie.close (tie.spec field-is-requires leads-to-requires returns returns-2)
+gives-prefix-spec =
+    tie.close (tie.spec note-requires note-requires-2 leads-to-requires returns returns-2)

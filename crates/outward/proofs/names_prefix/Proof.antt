@@ -1,31 +1,37 @@
 -- `outward::names_prefix` meets its contract.
 -- Assumes nothing.
-use borrow.Author.Needs.{needs}
+use native.Mathlib.Omega.{arith}
 use mathlib.Core.Path.{_∙_}
+use Rattle.declarations.proofs.Meanings.{prefix-names, meant-too}
 use Rattle.outward.proofs.Tests.{names-prefix-by, names-prefix-other}
 use Rattle.outward.proofs.names_prefix.Statement.{statement}
 use Rattle.outward.proofs.names_prefix.Tie as tie
 
 kind-requires : tie.Need-kind-requires
-kind-requires c κs = search needs
+kind-requires c κs = c .before .before .before .pre .1
 
-field-is-requires : tie.Need-field-is-requires
-field-is-requires c κs = search needs
+note-requires : tie.Need-note-requires
+note-requires c κs = let s = c .before .before .before .before in omega (arith, s .pre .0 .ready .noted, s .pre .1)
+
+note-requires-2 : tie.Need-note-requires-2
+note-requires-2 c κs = let s = c .before .before .before .before .before .before in omega (arith, s .pre .0 .ready .noted, s .pre .1)
 
 leads-to-requires : tie.Need-leads-to-requires
-leads-to-requires c κs = search needs
+leads-to-requires c κs = c .before .before .before .before .before .before .before .pre .0
 
 returns : tie.Need-returns
-returns c =
-    let s = c .before .before .before .before .before .before .before .before .before .before in
-    c .leads-to .ensures
-    ∙ names-prefix-by (s .args .table .now) (s .args .pool .now) (s .args .element .0) _ (c .before .before .before .kind .ensures) (s .args .path .now) (s .args .uri .now) _ (c .before .before .field-is .ensures) (c .before .if1 .taken)
+returns c pool name meant =
+    let s = c .before .before .before .before .before .before .before .before in
+    let own = prefix-names meant _ (s .pre .1) in
+    c .leads-to .ensures pool name _ meant (rw (← c .before .note2 .ensures) at (meant-too meant own))
+    ∙ names-prefix-by meant _ (s .pre .1) _ (c .before .before .before .before .kind .ensures) (s .args .path .now) _ (c .before .before .before .note .ensures) (c .before .before .if1 .taken)
 
 returns-2 : tie.Need-returns-2
-returns-2 c =
-    let s = c .before .before .before .before .before .before .before .before .before in
-    names-prefix-other (s .args .table .now) (s .args .pool .now) (s .args .element .0) _ (c .before .before .kind .ensures) (s .args .path .now) (s .args .uri .now) _ (c .before .field-is .ensures) (c .if1 .left)
+returns-2 c pool name meant =
+    let s = c .before .before .before .before .before .before in
+    names-prefix-other meant _ (s .pre .1) _ (c .before .before .kind .ensures) (s .args .path .now) _ (c .before .note .ensures) (c .if1 .left)
 
 pub names-prefix-spec : {M : Type 1} → statement M
 names-prefix-spec =
-    tie.close (tie.spec kind-requires field-is-requires leads-to-requires returns returns-2)
+    tie.close
+    (tie.spec kind-requires note-requires note-requires-2 leads-to-requires returns returns-2)

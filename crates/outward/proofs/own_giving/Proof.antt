@@ -1,56 +1,72 @@
--- `outward::own_giving` meets its contract. The invariant: what the walk finds from here on is what there is to find.
+-- `outward::own_giving` meets its contract. The invariant: what the walk finds from here on, or else what it has found, is
+-- what there is to find.
 -- Assumes nothing.
-use Prim.Native.Nat.{_-_}
+use Prim.Native.Nat.{ℕ}
+use mathlib.Core.List.{List}
 use native.Mathlib.Omega.{arith}
-use mathlib.Core.Path.{sym, _∙_}
 use borrow.Author.Needs.{needs}
-use borrow.Author.Tests.{ltb-true, ltb-false}
-use Rattle.rules.specs.Table.{nodes, rowCount}
+use Rattle.rules.specs.Table.{nodes}
 use Rattle.rules.specs.Lookups.{givesPrefix}
-use Rattle.in_scope.proofs.Walking.{Walking, walking-first, walking-room, walking-next, walking-falls, walking-hit, walking-end}
+use Rattle.scopes.proofs.Own.{Reached}
+use Rattle.declarations.specs.Meant.{Meant}
+use Rattle.declarations.proofs.Meanings.{tree}
+use Rattle.declarations.proofs.Walking.{Walking, walk-first, walk-within, walk-type, walk-next, walk-falls, walking-first, walking-next, walking-end}
 use Rattle.outward.proofs.own_giving.Statement.{statement}
 use Rattle.outward.proofs.own_giving.Tie as tie
 
 abbrev Inv-loop : tie.InvT-loop
-Inv-loop table pool first next path uri e row₀ row = Walking table pool e (givesPrefix (nodes table pool) path uri) (row .0)
+Inv-loop table notes path uri e first₀ at₀ first at =
+    Reached table e at
+    × ((pool name : List ℕ) → Meant table pool notes uri name → Walking table pool e (givesPrefix (nodes table pool) path name) at first)
 
 abbrev μ-loop : tie.MeasureT-loop
-μ-loop table pool first next path uri e row₀ row = rowCount table - row .0
+μ-loop table notes path uri e first₀ at₀ first at = at
 
-linked-requires : tie.Need-linked-requires Inv-loop μ-loop
-linked-requires c κs = let s = c .before .before .before .before .before .before in omega (arith, s .pre .0 .ready .places, s .pre .1 .within)
+note-requires : tie.Need-note-requires Inv-loop μ-loop
+note-requires c κs = let s = c .before .before .before in omega (arith, s .pre .0 .ready .noted, s .pre .1 .within)
 
 loop-holds : tie.Need-loop-holds Inv-loop μ-loop
-loop-holds c = let s = c .before .before .before .before .before .before .before in walking-first _ _ _ _ (s .pre .0 .ready) _ (s .pre .1) _ _ (c .linked .ensures)
+loop-holds c =
+    let s = c .before .before .before .before in
+    (walk-first _ _ (s .pre .0 .ready) _ (s .pre .1) _ (c .note .ensures), λ pool name meant. walking-first _ _ (s .pre .0 .ready) _ (s .pre .1) pool (tree meant) (givesPrefix (nodes (s .args .table .now) pool) (s .args .path .now) name) _ (c .note .ensures))
 
-has-row-requires : tie.Need-has-row-requires Inv-loop μ-loop
-has-row-requires c κs = search needs
+row-at-requires : tie.Need-row-at-requires Inv-loop μ-loop
+row-at-requires c κs = c .loop-test .taken
 
 gives-prefix-requires : tie.Need-gives-prefix-requires Inv-loop μ-loop
-gives-prefix-requires c κs = let s = c .before .before .before .before .before .before .before .before .before .before in (s .pre .0, ltb-true _ _ (sym (c .before .has-row .ensures) ∙ c .if1 .taken))
+gives-prefix-requires c κs =
+    let s = c .before .before .before .before .before .before .before in
+    let l = c .before .before in
+    (s .pre .0, (walk-within _ _ (s .pre .0 .ready) _ (s .pre .1) _ (l .loop .inv .0) (c .before .loop-test .taken) _ (c .row-at .ensures), walk-type _ _ (s .pre .0 .ready) _ (s .pre .1) _ (l .loop .inv .0) (c .before .loop-test .taken) _ (c .row-at .ensures)))
 
-returns : tie.Need-returns Inv-loop μ-loop
-returns c =
-    let s = c .before .before .before .before .before .before .before .before .before .before .before .before in
-    walking-hit _ _ _ _ (s .pre .0 .ready) _ (s .pre .1) _ _ (c .before .before .before .before .loop .inv) (ltb-true _ _ (sym (c .before .before .before .has-row .ensures) ∙ c .before .before .if1 .taken)) (sym (c .before .gives-prefix .ensures) ∙ c .if2 .taken)
+earlier-requires : tie.Need-earlier-requires Inv-loop μ-loop
+earlier-requires c κs = search needs
 
-linked-requires-2 : tie.Need-linked-requires-2 Inv-loop μ-loop
-linked-requires-2 c κs = let s = c .before .before .before .before .before .before .before .before .before .before .before .before in walking-room _ _ _ _ (s .pre .0 .ready) _ (s .pre .1) _ _ (c .before .before .before .before .loop .inv) (ltb-true _ _ (sym (c .before .before .before .has-row .ensures) ∙ c .before .before .if1 .taken))
+note-requires-2 : tie.Need-note-requires-2 Inv-loop μ-loop
+note-requires-2 c κs =
+    let s = c .before .before .before .before .before .before .before .before .before in
+    let within = walk-within _ _ (s .pre .0 .ready) _ (s .pre .1) _ (c .before .before .before .before .loop .inv .0) (c .before .before .before .loop-test .taken) _ (c .before .before .row-at .ensures) in
+    omega (arith, s .pre .0 .ready .noted, within)
 
 loop-less : tie.Need-loop-less Inv-loop μ-loop
 loop-less c =
-    let s = c .before .before .before .before .before .before .before .before .before .before .before .before .before in
-    let less = ltb-true _ _ (sym (c .before .before .before .before .has-row .ensures) ∙ c .before .before .before .if1 .taken) in
-    let later = walking-falls _ _ _ _ (s .pre .0 .ready) _ (s .pre .1) _ _ (c .before .before .before .before .before .loop .inv) less _ (c .linked2 .ensures) in
-    omega (arith, less, later)
+    let s = c .before .before .before .before .before .before .before .before .before .before in
+    walk-falls _ _ (s .pre .0 .ready) _ (s .pre .1) _ (c .before .before .before .before .before .loop .inv .0) (c .before .before .before .before .loop-test .taken) _ (c .before .before .before .row-at .ensures) _ (c .note2 .ensures)
 
 loop-again : tie.Need-loop-again Inv-loop μ-loop
 loop-again c =
-    let s = c .before .before .before .before .before .before .before .before .before .before .before .before .before in
-    walking-next _ _ _ _ (s .pre .0 .ready) _ (s .pre .1) _ _ (c .before .before .before .before .before .loop .inv) (ltb-true _ _ (sym (c .before .before .before .before .has-row .ensures) ∙ c .before .before .before .if1 .taken)) (sym (c .before .before .gives-prefix .ensures) ∙ c .before .if2 .left) _ (c .linked2 .ensures)
+    let s = c .before .before .before .before .before .before .before .before .before .before in
+    let l = c .before .before .before .before .before in (
+      walk-next _ _ (s .pre .0 .ready) _ (s .pre .1) _ (l .loop .inv .0) (c .before .before .before .before .loop-test .taken) _ (c .before .before .before .row-at .ensures) _ (c .note2 .ensures),
+      λ pool name meant.
+          walking-next _ _ (s .pre .0 .ready) _ (s .pre .1) pool (tree meant) (givesPrefix (nodes (s .args .table .now) pool) (s .args .path .now) name) _ _ (l .loop .inv .1 pool name meant) (l .loop .inv .0) (c .before .before .before .before .loop-test .taken) _ (c .before .before .before .row-at .ensures) _ (c .note2 .ensures) _
+          (c .before .before .gives-prefix .ensures pool name meant) _ (c .before .earlier .ensures),
+    )
 
-returns-2 : tie.Need-returns-2 Inv-loop μ-loop
-returns-2 c = let s = c .before .before .before .before .before .before .before .before .before .before in walking-end _ _ _ _ (s .pre .0 .ready) _ (s .pre .1) _ _ (c .before .before .loop .inv) (ltb-false _ _ (sym (c .before .has-row .ensures) ∙ c .if1 .left))
+returns : tie.Need-returns Inv-loop μ-loop
+returns c pool name meant =
+    let s = c .before .before .before .before .before .before in
+    walking-end _ _ (s .pre .0 .ready) _ (s .pre .1) pool (tree meant) (givesPrefix (nodes (s .args .table .now) pool) (s .args .path .now) name) _ _ (c .before .loop .inv .1 pool name meant) (omega arith)
 
 pub own-giving-spec : {M : Type 1} → statement M
 own-giving-spec =
@@ -58,12 +74,12 @@ own-giving-spec =
     (tie.spec
     Inv-loop
     μ-loop
-    linked-requires
+    note-requires
     loop-holds
-    has-row-requires
+    row-at-requires
     gives-prefix-requires
-    returns
-    linked-requires-2
+    earlier-requires
+    note-requires-2
     loop-less
     loop-again
-    returns-2)
+    returns)

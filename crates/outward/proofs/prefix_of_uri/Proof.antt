@@ -1,44 +1,53 @@
 -- `outward::prefix_of_uri` meets its contract. The invariant: what is left of the path gives what the whole path gives.
 -- Assumes nothing.
+use Prim.Native.Nat.{ℕ}
 use native.Mathlib.Omega.{arith}
+use mathlib.Core.List.{List}
+use mathlib.Core.Path.{sym, ap, _∙_}
 use borrow.Author.Needs.{needs}
 use borrow.Author.Tests.{ltb-true, ltb-false}
-use mathlib.Core.Path.{sym, ap, _∙_}
 use lib.ListN.{length}
 use Rattle.rules.specs.Table.{nodes}
 use Rattle.rules.specs.Lookups.{located}
 use Rattle.rules.specs.declared.Located.{Located}
+use Rattle.declarations.specs.Along.{Along}
+use Rattle.declarations.specs.Meant.{Meant}
 use Rattle.outward.proofs.Tests.{prefix-empty, prefix-asked}
-use Rattle.outward.proofs.Left.{Left, left-first, left-element, left-own, left-declared, left-next, left-end, prefixLookup}
+use Rattle.outward.proofs.Left.{Left, left-first, left-element, along-next, left-own, left-declared, left-next, left-end, prefixLookup}
 use Rattle.outward.proofs.prefix_of_uri.Statement.{statement}
 use Rattle.outward.proofs.prefix_of_uri.Tie as tie
 
 abbrev Inv-loop : tie.InvT-loop
-Inv-loop table pool first next path uri left₀ left = Left table pool first next path (prefixLookup (nodes table pool) path uri) left
+Inv-loop table notes path uri left₀ left =
+    Along table notes left × ((pool name : List ℕ) → Meant table pool notes uri name → Left table pool path (prefixLookup (nodes table pool) path name) left)
 
 abbrev μ-loop : tie.MeasureT-loop
-μ-loop table pool first next path uri left₀ left = length left
+μ-loop table notes path uri left₀ left = length left
 
 returns : tie.Need-returns Inv-loop μ-loop
-returns c = prefix-empty _ _ _ (c .if1 .taken)
+returns c pool name meant = prefix-empty meant _ _ (c .if1 .taken)
 
 loop-holds : tie.Need-loop-holds Inv-loop μ-loop
-loop-holds c = left-first _ _ _ _ _ _ (c .before .before .before .before .before .before .before .pre)
+loop-holds c = (c .before .before .before .before .pre, λ pool name meant. left-first _ _ _ _)
 
 row-at-requires : tie.Need-row-at-requires Inv-loop μ-loop
 row-at-requires c κs = c .loop-test .taken
 
 names-prefix-requires : tie.Need-names-prefix-requires Inv-loop μ-loop
-names-prefix-requires c κs = (c .before .before .before .before .before .before .before .before .before .before .pre, left-element _ _ _ _ _ _ _ (c .before .before .loop .inv) (c .before .loop-test .taken) _ (c .row-at .ensures) .within)
+names-prefix-requires c κs = (c .before .before .before .before .before .before .before .pre, left-element _ _ _ (c .before .before .loop .inv .0) (c .before .loop-test .taken) _ (c .row-at .ensures) .within)
 
 place-requires : tie.Need-place-requires Inv-loop μ-loop
-place-requires c κs = (left-element _ _ _ _ _ _ _ (c .before .before .before .before .loop .inv) (c .before .before .before .loop-test .taken) _ (c .before .before .row-at .ensures) .within, omega arith)
+place-requires c κs = (left-element _ _ _ (c .before .before .before .before .loop .inv .0) (c .before .before .before .loop-test .taken) _ (c .before .before .row-at .ensures) .within, omega arith)
 
 returns-2 : tie.Need-returns-2 Inv-loop μ-loop
-returns-2 c = ap Located.At (c .place .ensures) ∙ ap located (left-own _ _ _ _ _ _ _ (c .before .before .before .before .before .loop .inv) (c .before .before .before .before .loop-test .taken) _ (c .before .before .before .row-at .ensures) (sym (c .before .before .names-prefix .ensures) ∙ c .before .if2 .taken) ∙ prefix-asked _ _ _ (c .before .before .before .before .before .before .if1 .left))
+returns-2 c pool name meant =
+    let l = c .before .before .before .before .before in
+    let element = left-element _ _ _ (l .loop .inv .0) (c .before .before .before .before .loop-test .taken) _ (c .before .before .before .row-at .ensures) in
+    ap Located.At (c .place .ensures)
+    ∙ ap located (left-own _ pool _ _ _ (l .loop .inv .1 pool name meant) (c .before .before .before .before .loop-test .taken) _ (c .before .before .before .row-at .ensures) element (sym (c .before .before .names-prefix .ensures pool name meant) ∙ c .before .if2 .taken) ∙ prefix-asked meant _ _ (c .before .before .before .before .before .before .if1 .left))
 
 own-giving-requires : tie.Need-own-giving-requires Inv-loop μ-loop
-own-giving-requires c κs = (c .before .before .before .before .before .before .before .before .before .before .before .before .pre, left-element _ _ _ _ _ _ _ (c .before .before .before .before .loop .inv) (c .before .before .before .loop-test .taken) _ (c .before .before .row-at .ensures))
+own-giving-requires c κs = (c .before .before .before .before .before .before .before .before .before .pre, left-element _ _ _ (c .before .before .before .before .loop .inv .0) (c .before .before .before .loop-test .taken) _ (c .before .before .row-at .ensures))
 
 has-row-requires : tie.Need-has-row-requires Inv-loop μ-loop
 has-row-requires c κs = search needs
@@ -47,7 +56,11 @@ place-requires-2 : tie.Need-place-requires-2 Inv-loop μ-loop
 place-requires-2 c κs = (ltb-true _ _ (sym (c .before .has-row .ensures) ∙ c .if3 .taken), omega arith)
 
 returns-3 : tie.Need-returns-3 Inv-loop μ-loop
-returns-3 c = ap Located.At (c .place2 .ensures) ∙ ap located (left-declared _ _ _ _ _ _ _ (c .before .before .before .before .before .before .before .before .loop .inv) (c .before .before .before .before .before .before .before .loop-test .taken) _ (c .before .before .before .before .before .before .row-at .ensures) (sym (c .before .before .before .before .before .names-prefix .ensures) ∙ c .before .before .before .before .if2 .left) _ (c .before .before .before .own-giving .ensures) (ltb-true _ _ (sym (c .before .before .has-row .ensures) ∙ c .before .if3 .taken)) ∙ prefix-asked _ _ _ (c .before .before .before .before .before .before .before .before .before .if1 .left))
+returns-3 c pool name meant =
+    let l = c .before .before .before .before .before .before .before .before in
+    let element = left-element _ _ _ (l .loop .inv .0) (c .before .before .before .before .before .before .before .loop-test .taken) _ (c .before .before .before .before .before .before .row-at .ensures) in
+    ap Located.At (c .place2 .ensures)
+    ∙ ap located (left-declared _ pool _ _ _ (l .loop .inv .1 pool name meant) (c .before .before .before .before .before .before .before .loop-test .taken) _ (c .before .before .before .before .before .before .row-at .ensures) element (sym (c .before .before .before .before .before .names-prefix .ensures pool name meant) ∙ c .before .before .before .before .if2 .left) _ (c .before .before .before .own-giving .ensures pool name meant) (ltb-true _ _ (sym (c .before .before .has-row .ensures) ∙ c .before .if3 .taken)) ∙ prefix-asked meant _ _ (c .before .before .before .before .before .before .before .before .before .if1 .left))
 
 sub-left : tie.Need-sub-left Inv-loop μ-loop
 sub-left c = omega arith
@@ -62,10 +75,16 @@ loop-less : tie.Need-loop-less Inv-loop μ-loop
 loop-less c = omega arith
 
 loop-again : tie.Need-loop-again Inv-loop μ-loop
-loop-again c = left-next _ _ _ _ _ _ _ (c .before .before .before .before .before .before .before .before .loop .inv) (c .before .before .before .before .before .before .before .loop-test .taken) _ (c .before .before .before .before .before .before .row-at .ensures) (sym (c .before .before .before .before .before .names-prefix .ensures) ∙ c .before .before .before .before .if2 .left) _ (c .before .before .before .own-giving .ensures) (ltb-false _ _ (sym (c .before .before .has-row .ensures) ∙ c .before .if3 .left))
+loop-again c =
+    let l = c .before .before .before .before .before .before .before .before in
+    let element = left-element _ _ _ (l .loop .inv .0) (c .before .before .before .before .before .before .before .loop-test .taken) _ (c .before .before .before .before .before .before .row-at .ensures) in (
+      along-next _ _ _ (l .loop .inv .0),
+      λ pool name meant.
+          left-next _ pool _ _ _ (l .loop .inv .1 pool name meant) (c .before .before .before .before .before .before .before .loop-test .taken) _ (c .before .before .before .before .before .before .row-at .ensures) element (sym (c .before .before .before .before .before .names-prefix .ensures pool name meant) ∙ c .before .before .before .before .if2 .left) _ (c .before .before .before .own-giving .ensures pool name meant) (ltb-false _ _ (sym (c .before .before .has-row .ensures) ∙ c .before .if3 .left)),
+    )
 
 returns-4 : tie.Need-returns-4 Inv-loop μ-loop
-returns-4 c = ap located (left-end _ _ _ _ _ _ _ (c .before .loop .inv) (omega arith) ∙ prefix-asked _ _ _ (c .before .before .if1 .left))
+returns-4 c pool name meant = ap located (left-end _ pool _ _ _ (c .before .loop .inv .1 pool name meant) (omega arith) ∙ prefix-asked meant _ _ (c .before .before .if1 .left))
 
 pub prefix-of-uri-spec : {M : Type 1} → statement M
 prefix-of-uri-spec =

@@ -1,37 +1,22 @@
 -- `field::check` meets its contract.
 -- Assumes nothing.
-use denote.Ref.{now}
-use Rattle.fields.proofs.Passes.{refused-place, by-lengths}
+use mathlib.Core.Path.{sym, ap}
+use Rattle.rules.specs.Refusals.{verdict}
 use borrow.Author.Needs.{needs}
 use Rattle.fields.proofs.field.check.Statement.{statement}
 use Rattle.fields.proofs.field.check.Tie as tie
 
-check-places-requires : tie.Need-check-places-requires
-check-places-requires c κs = search needs
-
-enum-told : tie.Need-enum-told
-enum-told c = search needs
-
-enum-told-2 : tie.Need-enum-told-2
-enum-told-2 c = search needs
+is-plain-requires : tie.Need-is-plain-requires
+is-plain-requires c κs = search needs
 
 returns : tie.Need-returns
-returns c =
-    let p = c .before .before in
-    let s = p .before .before .before in
-    refused-place (now (s .args .table)) (now (s .args .pool)) (s .args .row .0) (p .check-places .ensures) _ (c .enum-told2 .given .1)
+returns c = ap verdict (sym (c .before .is-plain .ensures (c .if1 .taken)))
 
-check-lengths-requires : tie.Need-check-lengths-requires
-check-lengths-requires c κs = search needs
+check-each-requires : tie.Need-check-each-requires
+check-each-requires c κs = search needs
 
 returns-2 : tie.Need-returns-2
-returns-2 c =
-    let a = c .before in
-    let p = a .before .before in
-    let s = p .before .before .before in
-    by-lengths (now (s .args .table)) (now (s .args .pool)) (s .args .row .0) (p .check-places .ensures) (a .enum-told .given .1) (c .check-lengths .ensures)
+returns-2 c = search needs
 
 pub check-spec : {M : Type 1} → statement M
-check-spec =
-    tie.close
-    (tie.spec check-places-requires enum-told enum-told-2 returns check-lengths-requires returns-2)
+check-spec = tie.close (tie.spec is-plain-requires returns check-each-requires returns-2)

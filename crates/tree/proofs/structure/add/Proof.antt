@@ -3,7 +3,7 @@
 use native.Mathlib.Omega.{arith}
 use denote.Ref.{now}
 use Rattle.rules.specs.Table.{isElement}
-use Rattle.tree.proofs.Links.{add-latest, other-latest, far-latest}
+use Rattle.tree.proofs.Children.{add-latest, other-latest, far-latest}
 use borrow.Author.Needs.{needs}
 use Rattle.tree.proofs.structure.add.Statement.{statement}
 use Rattle.tree.proofs.structure.add.Tie as tie

@@ -1,6 +1,6 @@
 -- `structure::bad` meets its contract.
 -- Assumes nothing.
-use mathlib.Core.Path.{ap, _∙_}
+use mathlib.Core.Path.{refl, ap, _∙_}
 use native.Mathlib.Omega.{arith}
 use borrow.Author.Tests.{not-true, not-false}
 use denote.Ref.{now}
@@ -40,38 +40,53 @@ returns-2 c =
 kind-requires-2 : tie.Need-kind-requires-2
 kind-requires-2 c κs = search needs
 
+is-usual-requires : tie.Need-is-usual-requires
+is-usual-requires c κs = search needs
+
+returns-3 : tie.Need-returns-3
+returns-3 c =
+    let u = c .before in
+    let t = u .before in
+    let i = t .before .before .before .before in
+    let p = i .before .before in
+    let k = p .before in
+    let s = k .before .before .before in
+    let is = u .is-usual .ensures (c .if3 .taken) in
+    λ pool.
+    structure-elsewhere (now (s .args .table)) pool (s .args .row .0) (s .pre .0) (k .kind .ensures) (p .parent .ensures) (i .if1 .left) (omega arith) (t .kind2 .ensures) refl (is .1) (λ e. omega (arith, is .0))
+
 line-requires : tie.Need-line-requires
 line-requires c κs = search needs
 
 allows-requires-2 : tie.Need-allows-requires-2
-allows-requires-2 c κs = omega (arith, c .line .ensures, line-bound (c .before .kind2 .result))
+allows-requires-2 c κs = omega (arith, c .line .ensures, line-bound (c .before .before .before .kind2 .result))
 
-returns-3 : tie.Need-returns-3
-returns-3 c =
+returns-4 : tie.Need-returns-4
+returns-4 c =
     let a = c .before in
     let l = a .before in
-    let t = l .before in
+    let t = l .before .before .before in
     let i = t .before .before .before .before in
     let p = i .before .before in
     let k = p .before in
     let s = k .before .before .before in
     λ pool.
     structure-refused (now (s .args .table)) pool (s .args .row .0) (s .pre .0) (k .kind .ensures) (p .parent .ensures) (i .if1 .left) (omega arith) (t .kind2 .ensures)
-    (a .allows2 .ensures ∙ ap (ruleAllows (parentRule (k .kind .result))) (l .line .ensures)) (not-true (a .allows2 .result) (c .if3 .taken))
+    (a .allows2 .ensures ∙ ap (ruleAllows (parentRule (k .kind .result))) (l .line .ensures)) (not-true (a .allows2 .result) (c .if4 .taken))
 
-returns-4 : tie.Need-returns-4
-returns-4 c =
+returns-5 : tie.Need-returns-5
+returns-5 c =
     let e = c .before in
     let a = e .before in
     let l = a .before in
-    let t = l .before in
+    let t = l .before .before .before in
     let i = t .before .before .before .before in
     let p = i .before .before in
     let k = p .before in
     let s = k .before .before .before in
     λ pool.
     structure-elsewhere (now (s .args .table)) pool (s .args .row .0) (s .pre .0) (k .kind .ensures) (p .parent .ensures) (i .if1 .left) (omega arith) (t .kind2 .ensures)
-    (a .allows2 .ensures ∙ ap (ruleAllows (parentRule (k .kind .result))) (l .line .ensures)) (not-false (a .allows2 .result) (e .if3 .left)) (c .if4 .taken)
+    (a .allows2 .ensures ∙ ap (ruleAllows (parentRule (k .kind .result))) (l .line .ensures)) (not-false (a .allows2 .result) (e .if4 .left)) (c .if5 .taken)
 
 linked-requires : tie.Need-linked-requires
 linked-requires c κs = search needs
@@ -79,21 +94,21 @@ linked-requires c κs = search needs
 is-element-requires : tie.Need-is-element-requires
 is-element-requires c κs = search needs
 
-returns-5 : tie.Need-returns-5
-returns-5 c =
+returns-6 : tie.Need-returns-6
+returns-6 c =
     let g = c .before .before in
     let d = g .before in
     let e = d .before .before in
     let a = e .before in
     let l = a .before in
-    let t = l .before in
+    let t = l .before .before .before in
     let i = t .before .before .before .before in
     let p = i .before .before in
     let k = p .before in
     let s = k .before .before .before in
     λ pool.
     structure-second (now (s .args .table)) pool (s .args .row .0) (s .pre .0) (k .kind .ensures) (p .parent .ensures) (i .if1 .left) (omega arith) (t .kind2 .ensures)
-    (a .allows2 .ensures ∙ ap (ruleAllows (parentRule (k .kind .result))) (l .line .ensures)) (not-false (a .allows2 .result) (e .if3 .left)) (d .before .if4 .left)
+    (a .allows2 .ensures ∙ ap (ruleAllows (parentRule (k .kind .result))) (l .line .ensures)) (not-false (a .allows2 .result) (e .if4 .left)) (d .before .if5 .left)
     (now (s .args .children)) (s .pre .1) (d .linked .ensures) (g .is-element .ensures)
 
 pub bad-spec : {M : Type 1} → statement M
@@ -106,10 +121,12 @@ bad-spec =
     returns
     returns-2
     kind-requires-2
+    is-usual-requires
+    returns-3
     line-requires
     allows-requires-2
-    returns-3
     returns-4
+    returns-5
     linked-requires
     is-element-requires
-    returns-5)
+    returns-6)

@@ -1,0 +1,3 @@
+-- Beginning: what a lookup has begun with. Refusals: the refusal of a lookup.
+pub mod Refused
+pub mod Beginning

@@ -1,0 +1,28 @@
+-- What a lookup has when it has begun.
+use Prim.Native.Nat.{ℕ, _*_, _≤_, _<_}
+use mathlib.Core.List.{List}
+use mathlib.Core.Option.{none}
+use mathlib.Core.Path.{_≡_}
+use lib.ListN.{length, replicate}
+use Rattle.rules.specs.Table.{MOST-ROWS, rowCount}
+use Rattle.rules.specs.Lookups.{lookupRefusal}
+use Rattle.notes.specs.Notes.{NOTES, LATEST, noteAt}
+use Rattle.declarations.specs.Meant.{Meant}
+
+-- The notes are cleared, and there are enough. A table that is refused for its size needs none.
+pub record Blank (table notes : List ℕ) : Type 0 where
+  pub cleared : notes ≡ replicate (length notes) 0
+  pub records : rowCount table ≤ MOST-ROWS → NOTES * rowCount table ≤ length notes
+
+-- There are notes for all rows, without links.
+pub record Unlinked (table notes : List ℕ) : Type 0 where
+  pub few : rowCount table ≤ MOST-ROWS
+  pub noted : NOTES * rowCount table ≤ length notes
+  pub none : (e : ℕ) → noteAt notes e LATEST ≡ 0
+
+-- The lookup from row r is not refused, the table has the row, and the number is that of the name.
+pub record Ground (table pool : List ℕ) (r : ℕ) (notes : List ℕ) (number : ℕ) (name : List ℕ) : Type 0 where
+  pub unrefused : lookupRefusal table pool r ≡ none
+  pub within : r < rowCount table
+  pub unlinked : Unlinked table notes
+  pub meant : Meant table pool notes number name

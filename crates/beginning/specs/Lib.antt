@@ -1,0 +1,2 @@
+-- What a lookup has when it has begun.
+pub mod Ground

@@ -1,0 +1,79 @@
+// How every lookup begins: the check, which gives the names of the rows their numbers; whether the table
+// has the row; the number of the name that is asked for. And the way that it goes: the links of the
+// declarations, and the elements from the row's start element outward.
+ghost use mathlib.Core.Path.{_≡_};
+ghost use mathlib.Core.List.{List};
+ghost use mathlib.Core.Option.{some};
+ghost use Prim.Native.Nat.{ℕ, _≤_, _<_};
+ghost use lib.ListN.{length, take};
+ghost use Rattle.rules.specs.Table.{nodes, rowCount};
+ghost use Rattle.rules.specs.Lookups.{lookupElements, lookupRefusal};
+ghost use Rattle.rules.specs.declared.Refusal.{Refusal};
+ghost use Rattle.scopes.specs.Standing.{Relinked};
+ghost use Rattle.checker.specs.Lent.{Lent};
+ghost use Rattle.declarations.specs.Along.{Along};
+ghost use Rattle.beginning.specs.Ground.{Blank, Unlinked, Ground};
+ghost use Rattle.beginning.specs.declared.Begun.{Begun};
+use rules::Checked;
+use rules::Refusal;
+use rules::Row;
+
+// The number of the name that is asked for, or a refusal.
+pub enum Begun {
+    Asked(u16),
+    Refused(Refusal),
+}
+
+// Checks the table, whose rows get the numbers of their names, and looks for the row and for the name.
+pub fn begin(table: &[u32], pool: &[u8], row: Row, name: &[u8], notes: &mut [u16]) -> Begun
+    requires { ⌜ Blank (now table) (now notes) ⌝ }
+    ensures { λ r. ⌜ ((number : ℕ) → r ≡ Begun.Asked number → Ground (now (table .entry)) (now (pool .entry)) (row .0) (now (notes .exit)) number (now (name .entry))) ⌝ }
+    ensures { λ r. ⌜ ((x : Refusal) → r ≡ Begun.Refused x → lookupRefusal (now (table .entry)) (now (pool .entry)) (row .0) ≡ some x) ⌝ }
+{
+    if rows::row_count(table) <= checker::FEW_ROWS {
+        let mut dictionary = [0; checker::SMALL_DICTIONARY];
+        return begin_in(table, pool, row, name, &mut dictionary, notes);
+    }
+    let mut dictionary = [0; checker::DICTIONARY];
+    begin_in(table, pool, row, name, &mut dictionary, notes)
+}
+
+// The same, in a dictionary that is lent.
+fn begin_in(
+    table: &[u32],
+    pool: &[u8],
+    row: Row,
+    name: &[u8],
+    dictionary: &mut [u16],
+    notes: &mut [u16],
+) -> Begun
+    requires { ⌜ Blank (now table) (now notes) ⌝ }
+    requires { ⌜ Lent (now table) (now dictionary) (now notes) ⌝ }
+    ensures { λ r. ⌜ ((number : ℕ) → r ≡ Begun.Asked number → Ground (now (table .entry)) (now (pool .entry)) (row .0) (now (notes .exit)) number (now (name .entry))) ⌝ }
+    ensures { λ r. ⌜ ((x : Refusal) → r ≡ Begun.Refused x → lookupRefusal (now (table .entry)) (now (pool .entry)) (row .0) ≡ some x) ⌝ }
+{
+    let verdict = checker::check_numbered(table, pool, dictionary, notes);
+    match verdict {
+        Checked::Accepted => {
+            if rows::has_row(table, row) {
+                return Begun::Asked(dictionary::number_of_name(dictionary, pool, name));
+            }
+            Begun::Refused(Refusal::NoSuchRow)
+        }
+        Checked::Refused(earlier) => Begun::Refused(earlier),
+    }
+}
+
+// Links the declarations, and writes the elements from the row's start element outward to the path.
+// Answers how many they are.
+pub fn climb(table: &[u32], row: Row, notes: &mut [u16], path: &mut [u32]) -> usize
+    requires { ⌜ Unlinked (now table) (now notes) ⌝ }
+    requires { ⌜ (row .0 < rowCount (now table)) × (rowCount (now table) ≤ length (now path)) ⌝ }
+    ensures { λ r. ⌜ r ≤ length (now (path .exit)) ⌝ }
+    ensures { λ r. ⌜ Along (now (table .entry)) (now (notes .exit)) (take r (now (path .exit))) ⌝ }
+    ensures { λ r. ⌜ ((pool : List ℕ) → take r (now (path .exit)) ≡ lookupElements (nodes (now (table .entry)) pool) (row .0)) ⌝ }
+    ensures { λ _. ⌜ Relinked (now (notes .entry)) (now (notes .exit)) ⌝ }
+{
+    scopes::link_all(table, notes);
+    ancestors::lookup_elements(table, row, path)
+}

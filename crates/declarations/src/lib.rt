@@ -1,0 +1,175 @@
+// The declarations of an element, and those along a path of elements, by the numbers of their names; and
+// what is in scope by them. A row that is not there is NONE.
+ghost use mathlib.Core.Path.{_≡_};
+ghost use mathlib.Core.Bool.{false, cond};
+ghost use mathlib.Core.List.{List};
+ghost use Prim.Native.Nat.{ℕ, _*_, _≤_, _<_};
+ghost use lib.Dec.{ltb};
+ghost use lib.ListN.{length};
+ghost use Rattle.rules.specs.Lists.{firstThat, sameBytes};
+ghost use Rattle.rules.specs.Table.{TYPE, DECLARATION, xmlUri, word, nodes, nodeAt, rowCount};
+ghost use Rattle.rules.specs.Lookups.{ownDeclarations, declares, scopeOf, inScopeUri, serves, inScopePrefix, bound};
+ghost use Rattle.notes.specs.Notes.{NOTES, VALUE, noteAt};
+ghost use Rattle.rows.specs.Reading.{found};
+ghost use Rattle.ancestors.specs.Paths.{Element};
+ghost use Rattle.declarations.specs.Along.{Ready, Along};
+ghost use Rattle.declarations.specs.Meant.{Meant};
+use rules::InScope;
+use rules::Row;
+
+// The in-scope URI of a prefix that has this number, or of the default.
+pub fn in_scope_uri(
+    table: &[u32],
+    notes: &[u16],
+    path: &[u32],
+    prefix: &[u8],
+    number: u16,
+) -> InScope
+    requires { ⌜ Along (now table) (now notes) (now path) ⌝ }
+    ensures { λ r. ⌜ ((pool : List ℕ) → Meant (now (table .entry)) pool (now (notes .entry)) number (now (prefix .entry)) → r ≡ bound (inScopeUri (scopeOf (nodes (now (table .entry)) pool) (now (path .entry))) (now (prefix .entry)))) ⌝ }
+{
+    if names::is_xml(prefix) {
+        return InScope::Xml;
+    }
+    if names::is_xmlns(prefix) {
+        return InScope::Xmlns;
+    }
+    let row = nearest(table, notes, path, number);
+    if value_of(table, notes, row) == 0 {
+        return InScope::Nothing;
+    }
+    InScope::At(rows::place(table, row, rules::VALUE))
+}
+
+// The in-scope prefix of a URI that has this number.
+pub fn in_scope_prefix(
+    table: &[u32],
+    notes: &[u16],
+    path: &[u32],
+    uri: &[u8],
+    number: u16,
+) -> InScope
+    requires { ⌜ Along (now table) (now notes) (now path) ⌝ }
+    ensures { λ r. ⌜ ((pool : List ℕ) → Meant (now (table .entry)) pool (now (notes .entry)) number (now (uri .entry)) → r ≡ bound (inScopePrefix (scopeOf (nodes (now (table .entry)) pool) (now (path .entry))) (now (uri .entry)))) ⌝ }
+{
+    if uri.len() == 0 {
+        return InScope::Nothing;
+    }
+    if names::is_xml_uri(uri) {
+        return InScope::Xml;
+    }
+    if names::is_xmlns_uri(uri) {
+        return InScope::Xmlns;
+    }
+    let row = serving(table, notes, path, number);
+    if rows::has_row(table, row) {
+        return InScope::At(rows::place(table, row, rules::LOCAL_NAME));
+    }
+    InScope::Nothing
+}
+
+// An element's own declaration of a prefix.
+pub fn own(table: &[u32], notes: &[u16], element: Row, prefix: u16) -> Row
+    requires { ⌜ Ready (now table) (now notes) ⌝ }
+    requires { ⌜ Element (now table) (element .0) ⌝ }
+    ensures { λ r. ⌜ ((pool name : List ℕ) → Meant (now (table .entry)) pool (now (notes .entry)) prefix name → found (nodes (now (table .entry)) pool) (r .0) ≡ firstThat (declares name) (ownDeclarations (nodes (now (table .entry)) pool) (element .0))) ⌝ }
+{
+    let e = element.0;
+    let mut first = rules::NONE;
+    let mut at = notes::note(notes, Row(e), notes::LATEST);
+    while at > 0 {
+        let row = scopes::row_at(at);
+        let is = notes::note(notes, row, notes::LOCAL_NAME) == prefix;
+        first = earlier(is, row.0, first);
+        at = notes::note(notes, row, notes::PREVIOUS);
+    }
+    Row(first)
+}
+
+// The nearest declaration of a prefix along a path.
+fn nearest(table: &[u32], notes: &[u16], path: &[u32], prefix: u16) -> Row
+    requires { ⌜ Along (now table) (now notes) (now path) ⌝ }
+    ensures { λ r. ⌜ ((pool name : List ℕ) → Meant (now (table .entry)) pool (now (notes .entry)) prefix name → found (nodes (now (table .entry)) pool) (r .0) ≡ firstThat (declares name) (scopeOf (nodes (now (table .entry)) pool) (now (path .entry)))) ⌝ }
+{
+    let mut i: usize = 0;
+    while i < path.len() {
+        let declaration = own(table, notes, rows::row_at(path, i), prefix);
+        if rows::has_row(table, declaration) {
+            return declaration;
+        }
+        i += 1;
+    }
+    Row(rules::NONE)
+}
+
+// The first declaration along a path that gives a URI a prefix which no nearer declaration rebinds. The
+// URI is not that of xml, which no declaration but xml's own has.
+fn serving(table: &[u32], notes: &[u16], path: &[u32], uri: u16) -> Row
+    requires { ⌜ Along (now table) (now notes) (now path) ⌝ }
+    ensures { λ r. ⌜ ((pool name : List ℕ) → Meant (now (table .entry)) pool (now (notes .entry)) uri name → sameBytes name xmlUri ≡ false → found (nodes (now (table .entry)) pool) (r .0) ≡ firstThat (serves (scopeOf (nodes (now (table .entry)) pool) (now (path .entry))) name) (scopeOf (nodes (now (table .entry)) pool) (now (path .entry)))) ⌝ }
+{
+    let mut i: usize = 0;
+    while i < path.len() {
+        let declaration = own_serving(table, notes, path, rows::row_at(path, i), uri);
+        if rows::has_row(table, declaration) {
+            return declaration;
+        }
+        i += 1;
+    }
+    Row(rules::NONE)
+}
+
+// The first of an element's own declarations that serves along the path.
+fn own_serving(table: &[u32], notes: &[u16], path: &[u32], element: Row, uri: u16) -> Row
+    requires { ⌜ Along (now table) (now notes) (now path) ⌝ }
+    requires { ⌜ Element (now table) (element .0) ⌝ }
+    ensures { λ r. ⌜ ((pool name : List ℕ) → Meant (now (table .entry)) pool (now (notes .entry)) uri name → sameBytes name xmlUri ≡ false → found (nodes (now (table .entry)) pool) (r .0) ≡ firstThat (serves (scopeOf (nodes (now (table .entry)) pool) (now (path .entry))) name) (ownDeclarations (nodes (now (table .entry)) pool) (element .0))) ⌝ }
+{
+    let e = element.0;
+    let mut first = rules::NONE;
+    let mut at = notes::note(notes, Row(e), notes::LATEST);
+    while at > 0 {
+        let row = scopes::row_at(at);
+        let is = serves(table, notes, path, row, uri);
+        first = earlier(is, row.0, first);
+        at = notes::note(notes, row, notes::PREVIOUS);
+    }
+    Row(first)
+}
+
+// The declaration gives its prefix this URI, and so does what is in scope along the path.
+fn serves(table: &[u32], notes: &[u16], path: &[u32], declaration: Row, uri: u16) -> bool
+    requires { ⌜ Along (now table) (now notes) (now path) ⌝ }
+    requires { ⌜ (declaration .0 < rowCount (now table)) × (word (now table) (declaration .0) TYPE ≡ DECLARATION) ⌝ }
+    ensures { λ r. ⌜ ((pool name : List ℕ) → Meant (now (table .entry)) pool (now (notes .entry)) uri name → sameBytes name xmlUri ≡ false → r ≡ serves (scopeOf (nodes (now (table .entry)) pool) (now (path .entry))) name (nodeAt (now (table .entry)) pool (declaration .0))) ⌝ }
+{
+    if notes::note(notes, declaration, notes::VALUE) == uri {
+        let prefix = notes::note(notes, declaration, notes::LOCAL_NAME);
+        if prefix == 0 {
+            return false;
+        }
+        return value_of(table, notes, nearest(table, notes, path, prefix)) == uri;
+    }
+    false
+}
+
+// The number of the value of a declaration that may be missing; a missing one has the empty value.
+fn value_of(table: &[u32], notes: &[u16], declaration: Row) -> u16
+    requires { ⌜ NOTES * rowCount (now table) ≤ length (now notes) ⌝ }
+    ensures { λ r. ⌜ r ≡ cond (ltb (declaration .0) (rowCount (now (table .entry)))) (noteAt (now (notes .entry)) (declaration .0) VALUE) 0 ⌝ }
+{
+    if rows::has_row(table, declaration) {
+        return notes::note(notes, declaration, notes::VALUE);
+    }
+    0
+}
+
+// The row, if it passes; else the one that was found behind it.
+pub fn earlier(passes: bool, row: u32, later: u32) -> u32
+    ensures { λ r. ⌜ r ≡ cond passes row later ⌝ }
+{
+    if passes {
+        return row;
+    }
+    later
+}

@@ -1,0 +1,17 @@
+-- `is_seen` meets its contract.
+-- Assumes nothing.
+use borrow.Author.Needs.{needs}
+use Rattle.dictionary.proofs.is_seen.Statement.{statement}
+use Rattle.dictionary.proofs.is_seen.Tie as tie
+
+seen-requires : tie.Need-seen-requires
+seen-requires c κs = search needs
+
+seen-requires-2 : tie.Need-seen-requires-2
+seen-requires-2 c κs = search needs
+
+returns : tie.Need-returns
+returns c = rw (c .before .seen .ensures, c .seen2 .ensures)
+
+pub is-seen-spec : {M : Type 1} → statement M
+is-seen-spec = tie.close (tie.spec seen-requires seen-requires-2 returns)

@@ -1,0 +1,5 @@
+pub mod Hash
+pub mod Kinds
+pub mod Plain
+pub mod Entries
+pub mod Dictionary

@@ -1,2 +1,0 @@
--- What the questions ask of a path of elements.
-pub mod Along

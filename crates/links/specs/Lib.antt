@@ -1,2 +1,0 @@
--- What the links of an owner's rows mean.
-pub mod Links

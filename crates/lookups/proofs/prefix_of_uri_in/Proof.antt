@@ -1,0 +1,68 @@
+-- `lookups::prefix_of_uri_in` meets its contract.
+-- Assumes nothing.
+use mathlib.Core.Path.{sym, _∙_}
+use borrow.Author.Needs.{needs}
+use lib.Seq.{length-take-le}
+use Rattle.declarations.proofs.Meanings.{meant-relinked}
+use Rattle.lookups.proofs.Going.{going, prefix-along, prefix-refused}
+use Rattle.lookups.proofs.prefix_of_uri_in.Statement.{statement}
+use Rattle.lookups.proofs.prefix_of_uri_in.Tie as tie
+
+begin-requires : tie.Need-begin-requires
+begin-requires c κs = c .before .before .before .before .before .before .pre .blank
+
+enum-known-number : tie.Need-enum-known-number
+enum-known-number c = search needs
+
+climb-requires : tie.Need-climb-requires
+climb-requires c κs =
+    let g = c .before .before .before .before .before .before .before .begin .ensures .0 _ (c .before .before .before .number .given .1) in
+    (g .unlinked, (g .within, c .before .before .before .before .before .before .before .before .before .before .before .before .before .before .pre .places (g .unlinked .few)))
+
+slice-reshare-prefix-prefix-of-uri : tie.Need-slice-reshare-prefix-prefix-of-uri
+slice-reshare-prefix-prefix-of-uri c = c .before .before .before .before .before .climb .ensures .0
+
+slice-aggregate-prefix-of-uri : tie.Need-slice-aggregate-prefix-of-uri
+slice-aggregate-prefix-of-uri c = sym (length-take-le _ _ (c .before .before .before .before .before .before .climb .ensures .0))
+
+prefix-of-uri-requires : tie.Need-prefix-of-uri-requires
+prefix-of-uri-requires c κs = c .before .before .before .before .before .before .climb .ensures .1 .0
+
+enum-known-x : tie.Need-enum-known-x
+enum-known-x c = search needs
+
+same-length : tie.Need-same-length
+same-length c = search needs
+
+same-length-2 : tie.Need-same-length-2
+same-length-2 c = search needs
+
+same-length-3 : tie.Need-same-length-3
+same-length-3 c = search needs
+
+returns : tie.Need-returns
+returns c =
+    let s = c .before .before .before .before .before .before .before .before .before .before .before .before .before .before .before .before .before .before .before .before .before .before in
+    let g = c .before .before .before .before .before .before .before .before .before .before .before .before .before .before .before .begin .ensures .0 _ (c .before .before .before .before .before .before .before .before .before .before .before .number .given .1) in
+    c .prefix-of-uri .ensures (s .args .pool .now) (s .args .uri .now) (meant-relinked _ (g .meant) (c .before .before .before .before .before .before .before .climb .ensures .1 .1 .1))
+    ∙ prefix-along _ _ _ _ _ _ (going g (c .before .before .before .before .before .before .before .climb .ensures .0) (c .before .before .before .before .before .before .before .climb .ensures .1 .1 .0 (s .args .pool .now)))
+
+returns-2 : tie.Need-returns-2
+returns-2 c = prefix-refused _ _ _ _ _ (c .before .before .before .before .before .begin .ensures .1 _ (c .before .x .given .1))
+
+pub prefix-of-uri-in-spec : {M : Type 1} → statement M
+prefix-of-uri-in-spec =
+    tie.close
+    (tie.spec
+    begin-requires
+    enum-known-number
+    climb-requires
+    slice-reshare-prefix-prefix-of-uri
+    slice-aggregate-prefix-of-uri
+    prefix-of-uri-requires
+    enum-known-x
+    same-length
+    same-length-2
+    returns
+    same-length-3
+    returns-2)

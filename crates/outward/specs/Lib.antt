@@ -1,0 +1,2 @@
+-- The URI that a row decides.
+pub mod Deciding
