@@ -6,6 +6,7 @@ Usage: bench/tables.py DIR
 The rows of a table for normalization are those of its result: the table is as much shorter as that adds rows.
 The tables are the same in every run: the generator is seeded, and uses only its own arithmetic.
 """
+import itertools
 import struct
 import sys
 
@@ -145,6 +146,58 @@ def long_names(rows):
     return table
 
 
+def one_uri(rows):
+    """Attributes of one element and one URI that fills the pool, each with a local name of its own of three letters."""
+    table = Table()
+    names = ["".join(chr(ord("a") + k // 26**i % 26) for i in range(3)) for k in range(rows - 1)]
+    root = table.add(1, NONE, local=table.place(names[0]))
+    uri = table.place("u" * (32768 - 3 * len(names)))
+    for name in names:
+        table.add(2, root, local=table.place(name), uri=uri)
+    return table
+
+
+def long_parts(rows, length, middle):
+    """Elements with names of one length, each a byte further in the pool, which holds one letter alone but in its middle."""
+    table = Table()
+    table.pool += b"a" * (length + rows)
+    table.pool[(length + rows) // 2] = ord(middle)
+    root = table.add(1, NONE, local=(0, length))
+    while len(table.rows) < rows:
+        table.add(1, root, local=(len(table.rows), length))
+    return table
+
+
+def overlapping(rows):
+    """Names of 15,000 bytes that overlap, each alike to the others but for a byte in the middle."""
+    return long_parts(rows, 15000, "b")
+
+
+def equal_names(rows):
+    """Names of 15,000 bytes that are all equal, each in a place of its own."""
+    return long_parts(rows, 15000, "a")
+
+
+def bucket(name):
+    """The bucket of a name of up to eight bytes in the dictionary (crates/dictionary/specs/Hash.antt)."""
+    low, high = struct.unpack("<II", name.ljust(8, b"\0"))
+    product = (len(name) + low) * 668265263 + high * 374761393
+    return (product + product // 2**32) % 2**32 // 65536 % 1024
+
+
+def one_bucket(rows):
+    """Elements whose names all share a bucket of the dictionary."""
+    table = Table()
+    root = table.add(1, NONE, local=table.place("root"))
+    letters = "abcdefghijklmnopqrstuvwxyz"
+    for name in map("".join, itertools.product(letters, repeat=5)):
+        if len(table.rows) == rows:
+            break
+        if bucket(name.encode()) == 7:
+            table.add(1, root, local=table.place(name))
+    return table
+
+
 def chain(rows):
     """A chain of elements without names in a namespace below an element that declares four prefixes."""
     table = Table()
@@ -266,6 +319,30 @@ def references(rows):
     return table
 
 
+def by_turns(rows, chains):
+    """Chains of elements below one root, one row of each chain after the other, so that no two elements in row order lie in
+    each other. Each element declares a prefix of its own and has the one that its chain's first element declares."""
+    table = Table()
+    ends = [start(table)] * chains
+    turn = 0
+    while len(table.rows) + 2 <= rows:
+        k, level = turn % chains, turn // chains
+        uri = "http://www.example.org/chain%d" % k
+        ends[k] = table.add(1, ends[k], table.place("c%d" % k), table.place("part"), table.place(uri))
+        prefix, declared = ("c%d" % k, uri) if level == 0 else ("l%d" % level, URIS[level % 4])
+        table.add(13, ends[k], local=table.place(prefix), value=table.place(declared))
+        turn += 1
+    return table
+
+
+def by_turns_deep(rows):
+    return by_turns(rows, 2)
+
+
+def by_turns_wide(rows):
+    return by_turns(rows, 22)
+
+
 def in_each_other(rows, body, declared):
     """Rows in each other below one element, of these types in turn; the last row is always an element. The names of the
     elements below have a prefix, so that the default test goes on. What is asked for is at the top: the prefix in the top
@@ -307,6 +384,7 @@ def both_declared(rows):
 
 
 CHECKED = (ordinary, cyrillic, accent, apart, one_owner, texts, long_names)
+SLOW = (one_uri, overlapping, equal_names, one_bucket, by_turns_deep, by_turns_wide)
 ASKED = (chain,)
 NORMALIZED = (typical, deep, wide, shadowed, shadowed_once, numbered, references)
 DEEPEST = (elements_own, elements_declared, references_own, references_declared, both_own, both_declared)
@@ -318,7 +396,8 @@ def main():
     for make in CHECKED + ASKED + NORMALIZED:
         for rows in (250, 500, 1000):
             make(rows).write("%s/%s-%d" % (sys.argv[1], make.__name__, rows))
-    for make in DEEPEST:
+    ordinary(10).write("%s/ordinary-10" % sys.argv[1])
+    for make in SLOW + DEEPEST:
         make(1024).write("%s/%s-1024" % (sys.argv[1], make.__name__))
 
 
