@@ -155,9 +155,9 @@ extern "C" {
 #define NOEMATHU_BUNDLE_BYTES(rows, pool_bytes) \
     (NOEMATHU_BUNDLE_HEADER + 4 * NOEMATHU_ROW_WORDS * (size_t)(rows) + (size_t)(pool_bytes))
 
-/* Bytes of stack that are enough for any call. Measured were at most 12,568 for
-   noemathu_write, 53,640 for noemathu_check and noemathu_read, 106,976 for the
-   lookups and 163,056 for noemathu_normalize. */
+/* Bytes of stack that are enough for any call. Measured were at most 60,968 for
+   noemathu_write, 101,960 for noemathu_check and noemathu_read, 114,728 for the
+   lookups and 191,856 for noemathu_normalize. */
 #define NOEMATHU_STACK 262144
 
 /* The parent of a row that has none. */
