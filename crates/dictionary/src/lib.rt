@@ -135,11 +135,12 @@ pub fn kind(dictionary: &[u16], number: u16) -> u16
     entries::word(&dictionary[PLACES..], number, entries::KIND)
 }
 
-// The slot of a place.
+// The slot of a place. The round that an offset is in counts too, so that names of four or eight bytes
+// behind each other use all slots.
 fn slot_of(offset: u16, size: u16) -> usize
     ensures { λ r. ⌜ r < SLOTS ⌝ }
 {
-    (offset as usize + 7 * size as usize) % SLOTS
+    (offset as usize + offset as usize / SLOTS + 7 * size as usize) % SLOTS
 }
 
 // The slot remembers this place.
