@@ -59,7 +59,7 @@ fn start(table: &[u32], row: Row) -> Row
 }
 
 // The element child of a document.
-fn element_child(table: &[u32], row: Row) -> Row
+pub fn element_child(table: &[u32], row: Row) -> Row
     requires { ⌜ rowCount (now table) ≤ NONE ⌝ }
     ensures { λ r. ⌜ ((pool : List ℕ) → r .0 ≡ rowOr (elementChild (nodes (now (table .entry)) pool) (row .0))) ⌝ }
 {

@@ -80,7 +80,7 @@ module _ (table pool : List ℕ) (r : ℕ) (name : List ℕ) where
                   noted = rw size (blank .records (few table pool is));
                   none = λ e. kept e LATEST (omega arith) (omega arith) ∙ blank-note table before blank e;
                 };
-            meant = record { accepted = is; spelling = spelling dictionary pool; last = lastOf dictionary; numbered = named .numbered; asked = asked };
+            meant = record { accepted = is; spelling = spelling dictionary pool; last = lastOf dictionary; few = named .few; numbered = named .numbered; asked = asked };
           }),
       λ y e. cc,
     )

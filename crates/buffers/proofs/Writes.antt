@@ -3,12 +3,15 @@
 use Prim.Native.Nat.{ℕ, suc, _+_, _-_, _≤_, _<_}
 use mathlib.Core.Path.{_≡_, refl, sym, ap, _∙_}
 use mathlib.Core.List.{List, [], _∷_, _++_, append-nil, append-assoc}
-use native.Mathlib.Nat.{zero-add, le-antisymm}
+use native.Mathlib.Nat.{zero-add, add-zero, le-antisymm}
 use native.Mathlib.Numerals.{add-one}
 use native.Mathlib.Omega.{arith}
-use lib.ListN.{length, getD, take, drop, set, replicate, length-set, length-append, length-drop}
+use lib.Dec.{ltb}
+use borrow.Author.Tests.{ltb-true, ltb-false}
+use Rattle.rules.proofs.Lists.{by-cases}
+use lib.ListN.{length, getD, take, drop, set, replicate, length-set, length-append, length-drop, take-append-drop}
 use lib.Seq.{take-all, take-length, take-suc-set, take-append-seam, getD-append-seam, append-snoc, length-take-le, take-at, drop-at, drop-drop, paste, paste-suc}
-use Rattle.buffers.specs.Writes.{written, cleared}
+use Rattle.buffers.specs.Writes.{written, cleared, Put}
 
 -- What is left to clear decides what the buffer will be.
 pub clear-step : (t : List ℕ) (i : ℕ) → i < length t → cleared (set t i 0) (i + 1) ≡ cleared t i
@@ -67,3 +70,39 @@ written-behind t at a b h =
     ∙ ap (λ (l : List ℕ). take at t ++ a ++ b ++ l) gone
     ∙ ap (λ (l : List ℕ). l ++ drop (at + length a + length b) t) (append-assoc (take at t) a b)
     ∙ ap (λ (n : ℕ). take at t ++ (a ++ b) ++ drop n t) size
+
+-- Nothing more is put, and what is put behind what was put is one longer list.
+pub written-nothing : (t : List ℕ) (at : ℕ) → written t at [] ≡ t
+written-nothing t at =
+    ap (λ (l : List ℕ). l ++ drop (at + 0) t) (append-nil (take at t))
+    ∙ ap (λ (k : ℕ). take at t ++ drop k t) (add-zero at)
+    ∙ take-append-drop at t
+
+pub put-nothing : (t : List ℕ) (at : ℕ) → Put t at [] at t
+put-nothing t at = record { size = refl; fits = λ h. (sym (add-zero at), sym (written-nothing t at)); past = λ h. omega arith }
+
+-- What starts past the end does not fit.
+pub put-past : (t : List ℕ) (at : ℕ) (l : List ℕ) → length t < at → Put t at l at t
+put-past t at l h = record { size = refl; fits = λ k. absurd (omega arith); past = λ k. h }
+
+pub put-fits : (t : List ℕ) (at : ℕ) (l : List ℕ) {r : ℕ} {t′ : List ℕ} → at + length l ≤ length t → r ≡ at + length l → t′ ≡ written t at l → Put t at l r t′
+put-fits t at l h e w = record { size = ap length w ∙ length-written t at l h; fits = λ k. (e, w); past = λ k. absurd (omega arith) }
+
+pub put-behind : {t : List ℕ} {at : ℕ} {a b : List ℕ} {r r′ : ℕ} {t′ t″ : List ℕ} → Put t at a r t′ → Put t′ r b r′ t″ → Put t at (a ++ b) r′ t″
+put-behind {t} {at} {a} {b} {r} {r′} {t′} {t″} p q =
+    let size : at + length (a ++ b) ≡ at + length a + length b = rw length-append (omega arith) in
+    record {
+      size = q .size ∙ p .size;
+      fits = λ h.
+          let first = p .fits (omega arith) in
+          let second = q .fits (omega (arith, first .0, p .size)) in
+          (second .0 ∙ rw (first .0) (sym size), second .1 ∙ rw (first .1, first .0) (written-behind t at a b (omega arith)));
+      past = λ h.
+          by-cases (ltb (length t) (at + length a))
+          (λ e. let past = p .past (ltb-true (length t) (at + length a) e) in let further = q .past (omega (arith, past, p .size)) in omega (arith, further, p .size))
+          (λ e.
+          let within = ltb-false (length t) (at + length a) e in
+          let first = p .fits within in
+          let further = q .past (omega (arith, first .0, p .size)) in
+          omega (arith, further, p .size));
+    }

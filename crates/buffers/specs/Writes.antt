@@ -1,5 +1,6 @@
 -- What the writes leave in a lent buffer. A buffer keeps its length.
-use Prim.Native.Nat.{ℕ, _+_, _-_, _*_}
+use Prim.Native.Nat.{ℕ, _+_, _-_, _*_, _≤_, _<_}
+use mathlib.Core.Path.{_≡_}
 use mathlib.Core.List.{List, [], _++_}
 use lib.ListN.{length, take, drop, set, replicate}
 use Rattle.rules.specs.Table.{WIDTH, Field, part, wordsOf}
@@ -26,3 +27,9 @@ fieldIn pool place =
 -- the words of a new declaration: its owner, and the places of the declared prefix and of the URI; no pool matters
 abbrev pub declarationWords : ℕ → Place → Place → List ℕ
 declarationWords owner prefix uri = wordsOf (newDeclaration owner (fieldIn [] prefix) (fieldIn [] uri))
+
+-- A list put from an index on: if it fits, where it ends, and the buffer with it. If not, what is answered is past the buffer's end.
+pub record Put (buffer : List ℕ) (at : ℕ) (l : List ℕ) (end : ℕ) (buffer′ : List ℕ) : Type 0 where
+  pub size : length buffer′ ≡ length buffer
+  pub fits : at + length l ≤ length buffer → (end ≡ at + length l) × (buffer′ ≡ written buffer at l)
+  pub past : length buffer < at + length l → length buffer < end

@@ -5,7 +5,7 @@ ghost use Prim.Native.Nat.{_+_, _*_, _≤_, _<_};
 ghost use lib.ListN.{length, drop};
 ghost use Rattle.rules.specs.Table.{WIDTH};
 ghost use Rattle.rules.specs.Normalization.{numberedPrefix};
-ghost use Rattle.buffers.specs.Writes.{written, cleared, placed, declarationWords};
+ghost use Rattle.buffers.specs.Writes.{written, cleared, placed, declarationWords, Put};
 use rules::Offset;
 use rules::Place;
 use rules::Row;
@@ -89,12 +89,35 @@ pub fn append_bytes(pool: &mut [u8], at: Offset, bytes: &[u8])
     requires { ⌜ at .0 + length (now bytes) ≤ length (now pool) ⌝ }
     ensures { λ _. ⌜ now (pool .exit) ≡ written (now (pool .entry)) (at .0) (now (bytes .entry)) ⌝ }
 {
-    let start = at.0 as usize;
+    write_bytes(pool, at.0 as usize, bytes);
+}
+
+// Writes bytes to an output from a place on; answers where they end.
+pub fn write_bytes(out: &mut [u8], at: usize, bytes: &[u8]) -> usize
+    requires { ⌜ at + length (now bytes) ≤ length (now out) ⌝ }
+    ensures { λ r. ⌜ r ≡ at + length (now (bytes .entry)) ⌝ }
+    ensures { λ _. ⌜ now (out .exit) ≡ written (now (out .entry)) at (now (bytes .entry)) ⌝ }
+{
     let mut i = 0;
     while i < bytes.len() {
-        pool[start + i] = bytes[i];
+        out[at + i] = bytes[i];
         i += 1;
     }
+    at + i
+}
+
+// Writes bytes to an output from a place on, if they fit; answers where they end, or a place past the output's end.
+pub fn put_bytes(out: &mut [u8], at: usize, bytes: &[u8]) -> usize
+    ensures { λ r. ⌜ Put (now (out .entry)) at (now (bytes .entry)) r (now (out .exit)) ⌝ }
+{
+    if at > out.len() {
+        return at;
+    }
+    let end = at + bytes.len();
+    if end > out.len() {
+        return end;
+    }
+    write_bytes(out, at, bytes)
 }
 
 // Writes `NS` and the decimal digits of k to the pool from an offset on; answers how many bytes that are.

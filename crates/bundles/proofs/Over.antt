@@ -25,7 +25,7 @@ module _ (table pool : List ℕ) (x : Refusal) (e : checkRefusal table pool ≡ 
   unfolding checked
   checked-refused = rw e refl
 
-  lookup-refused : (r : ℕ) → lookupRefusal table pool r ≡ some x
+  pub lookup-refused : (r : ℕ) → lookupRefusal table pool r ≡ some x
   unfolding lookupRefusal
   lookup-refused r = rw e refl
 
@@ -72,7 +72,7 @@ module _ (bytes : List ℕ) where
   opening-cases refused answer x none true e size = size refl ∙ (let same : Refusal.Size ≡ x = cc in ap refused same)
   opening-cases refused answer x none false e size = absurd (Option·none-ne-some x e)
 
-  over-refused :
+  pub over-refused :
       {A : Type 0} (refused : Refusal → A) (answer : List ℕ → List ℕ → A) (x : Refusal) → openingRefusal bytes ≡ some x
       → (checkRefusal (bundleTable bytes) (bundlePool bytes) ≡ some Refusal.Size → answer (bundleTable bytes) (bundlePool bytes) ≡ refused Refusal.Size)
       → overBundle bytes refused answer ≡ refused x
@@ -123,7 +123,7 @@ module _ (bytes buffer : List ℕ) (n : ℕ) (is : Opens bytes buffer n) (pool :
   pub pool-short : length pool ≤ MOST-BYTES
   pool-short = rw (sym opened-pool) (is .short)
 
-  over-open : {A : Type 0} (refused : Refusal → A) (answer : List ℕ → List ℕ → A) → answer (take (WIDTH * n) buffer) pool ≡ overBundle bytes refused answer
+  pub over-open : {A : Type 0} (refused : Refusal → A) (answer : List ℕ → List ℕ → A) → answer (take (WIDTH * n) buffer) pool ≡ overBundle bytes refused answer
   over-open refused answer =
       ap (λ (t : List ℕ). answer t pool) (is .table)
       ∙ ap (λ (p : List ℕ). answer (bundleTable bytes) p) (sym opened-pool)

@@ -36,6 +36,7 @@ module _ {table pool notes : List ℕ} {number : ℕ} {name : List ℕ} (m : Mea
         accepted = m .accepted;
         spelling = m .spelling;
         last = m .last;
+        few = m .few;
         numbered = m .numbered;
         asked = λ k bytes other. same-number (m .numbered .spelled) other names;
       }
@@ -60,6 +61,7 @@ meant-relinked notes′ m same =
       accepted = m .accepted;
       spelling = m .spelling;
       last = m .last;
+      few = m .few;
       numbered =
           record {
             spelled = m .numbered .spelled;

@@ -4,6 +4,7 @@ ghost use mathlib.Core.Path.{_≡_};
 ghost use lib.ListN.{length};
 ghost use Rattle.answers.specs.Given.{checkGiven, locatedGiven, testedGiven, inScopeGiven, readGiven, writtenGiven};
 ghost use Rattle.bundles.specs.Operations.{bundleRead, tableWritten, bundleChecked, bundleUriOfPrefix, bundlePrefixOfUri, bundleIsDefault, bundleInScopeUri, bundleInScopePrefix, bundleNormalized};
+ghost use Rattle.markup.specs.Writing.{bundleText};
 use answers::Found;
 use answers::Number;
 use answers::Sizes;
@@ -67,6 +68,16 @@ pub extern "C" fn noemathu_normalize(bundle: &[u8], out: &mut [u8]) -> Used
     ensures { λ _. ⌜ now (out .exit) ≡ bundleNormalized (now (bundle .entry)) (length (now (out .entry))) .bytes ⌝ }
 {
     answers::written(sessions::normalize(bundle, out))
+}
+
+// Writes the XML text of an element, or of a document's element, and of all that it holds. Success answers the bytes that it
+// takes; the rest of the output is zero, and all of it after a refusal.
+#[no_mangle]
+pub extern "C" fn noemathu_write_xml(bundle: &[u8], row: u32, out: &mut [u8]) -> Used
+    ensures { λ r. ⌜ r ≡ writtenGiven (bundleText (now (bundle .entry)) row (length (now (out .entry))) .answer) ⌝ }
+    ensures { λ _. ⌜ now (out .exit) ≡ bundleText (now (bundle .entry)) row (length (now (out .entry))) .bytes ⌝ }
+{
+    answers::written(sessions::write_xml(bundle, Row(row), out))
 }
 
 // Reads a bundle into a table and a pool. Success answers the rows and bytes that it takes; the rest of both outputs is zero,

@@ -1,12 +1,10 @@
 // Namespace normalization into lent buffers, and in place.
 ghost use mathlib.Core.Path.{_≡_};
-ghost use mathlib.Core.List.{List};
 ghost use mathlib.Core.Option.{some};
 ghost use Prim.Native.Nat.{ℕ, _*_, _≤_, _<_, min};
 ghost use lib.ListN.{length, getD, take};
 ghost use Rattle.rules.specs.Table.{WIDTH, MOST-ROWS, MOST-BYTES, rowCount, nodes};
-ghost use Rattle.rules.specs.Refusals.{verdict};
-ghost use Rattle.rules.specs.Normalization.{normalForm, level1Refusal, normalized};
+ghost use Rattle.rules.specs.Normalization.{normalForm, normalized};
 ghost use Rattle.rules.specs.declared.Normalized.{Normalized};
 ghost use Rattle.rules.specs.declared.Refusal.{Refusal};
 ghost use Rattle.notes.specs.Notes.{NOTES, LATEST, noteAt, HasNotes};
@@ -23,7 +21,6 @@ use repair::Sizes;
 use rules::Checked;
 use rules::Normalized;
 use rules::Refusal;
-use rules::Row;
 
 // The bytes of the working pool: those of any pool, and an NS prefix for each of its rows.
 pub const WORK: usize = rules::MOST_BYTES + 6 * rules::MOST_ROWS;
@@ -166,7 +163,7 @@ fn judge_in(
     ensures { λ r. ⌜ ((x : Refusal) → r ≡ Judged.Refused x → inputRefusal (now (table .entry)) (now (pool .entry)) ≡ some x) ⌝ }
 {
     match checker::check_numbered(table, pool, dictionary, notes) {
-        Checked::Accepted => match level1(table) {
+        Checked::Accepted => match levels::level1(table) {
             Checked::Accepted => Judged::Numbered(enter_names(dictionary, pool, path)),
             Checked::Refused(why) => Judged::Refused(why),
         },
@@ -189,21 +186,6 @@ fn enter_names(dictionary: &[u16], pool: &[u8], path: &mut [u16]) -> u16
         return xml;
     }
     last
-}
-
-// Refusal 9, for the lowest row of DOM Level 1.
-fn level1(table: &[u32]) -> Checked
-    requires { ⌜ rowCount (now table) ≤ MOST-ROWS ⌝ }
-    ensures { λ r. ⌜ ((pool : List ℕ) → r ≡ verdict (level1Refusal (nodes (now (table .entry)) pool))) ⌝ }
-{
-    let mut r: u32 = 0;
-    while rows::has_row(table, Row(r)) {
-        if rows::is_level1(rows::kind(table, Row(r))) {
-            return Checked::Refused(Refusal::Level1(Row(r)));
-        }
-        r += 1;
-    }
-    Checked::Accepted
 }
 
 // Normalizes an input that draws none of these refusals.

@@ -38,8 +38,9 @@ use Rattle.bindings.specs.Asking.{topOf, agrees, elementSettled, attributeSettl
 use Rattle.bindings.proofs.Scopes.{same-names}
 use Rattle.bindings.proofs.Deciding as deciding
 use Rattle.bindings.proofs.Free.{inUse, UsedBefore}
+use Rattle.bindings.proofs.Held.{scope-positions}
 use Rattle.repair.specs.Working.{Good, AtAttribute, AtUnserved, AfterAttribute, SameAttributes, endField, prefixed, declaredFor, Named}
-use Rattle.repair.proofs.Held.{part, rows-fit, count, part-count, rows-held, noted-row, path-room, asked, element-below, row, here, top-is, scope-positions}
+use Rattle.repair.proofs.Held.{part, rows-fit, count, part-count, rows-held, noted-row, path-room, asked, element-below, row, here, top-is}
 use Rattle.repair.proofs.Steps.{good-prefixed, good-named, named-attributes, place-of-words}
 
 first-each : (P : ℕ → Type 0) (l : List ℕ) → Each P l → 0 < first l → P (first l)

@@ -23,8 +23,9 @@ use Rattle.scopes.proofs.Each.{each-map}
 use Rattle.scopes.proofs.Answers.{standing-nearest}
 use Rattle.scopes.proofs.Same.{serving-each}
 use Rattle.scopes.proofs.Changes.{outward-same, own-same, standing-changed}
+use Rattle.bindings.proofs.Held.{scope-positions}
 use Rattle.repair.specs.Working.{Good, SameAttributes, notedFor, AtTop, declaredFor}
-use Rattle.repair.proofs.Held.{rows-fit, part-count, parent-word, scope-positions}
+use Rattle.repair.proofs.Held.{rows-fit, part-count, parent-word}
 use Rattle.repair.proofs.Changed.{numbers-relinked, for-other, for-local, for-value}
 use Rattle.repair.proofs.Steps.{Appended, appended, appended-attributes}
 

@@ -9,24 +9,26 @@ use native.Mathlib.Omega.{arith}
 use lib.ListN.{length, getD, set}
 use lib.Dec.{eqb}
 use borrow.Author.Tests.{eqb-true, eqb-false, eq-eqb, ne-eqb}
-use Rattle.rules.specs.Lists.{firstThat, anyOf, sameBytes}
-use Rattle.rules.specs.Table.{PARENT, DECLARATION, xmlPrefix, Node, noNode, node, word, rowCount}
+use Rattle.rules.specs.Lists.{firstThat, anyOf}
+use Rattle.rules.specs.Table.{PARENT, DECLARATION, Node, noNode, node, word, rowCount}
 use Rattle.rules.specs.Lookups.{isDeclarationOf, ownDeclarations, declares, scopeAt}
 use Rattle.rules.specs.Normalization.{State, newDeclaration, withValue, isOwnDeclaration, declare, repairElement}
 use Rattle.rules.specs.Demands.{elementMeans}
-use Rattle.rules.proofs.Lists.{by-cases, true-not-false, both-true, true-both, both-false, firstThat-none, none-firstThat, firstThat-none-getD, firstThat-append-some, firstThat-passes, allOf-firstThat, filtered-passes, anyOf-filtered}
+use Rattle.rules.proofs.Lists.{by-cases, true-not-false, both-true, true-both, firstThat-none, none-firstThat, firstThat-none-getD, firstThat-append-some, firstThat-passes, allOf-firstThat, filtered-passes, anyOf-filtered}
 use Rattle.rules.proofs.Scope.{scope-split, above}
 use Rattle.rules.proofs.Repairs.{element-by-meaning, is-element}
 use Rattle.rules.proofs.Unique.{revalued-is-set}
 use Rattle.notes.specs.Notes as noting
 use Rattle.notes.specs.Notes.{noteAt}
 use Rattle.numbers.specs.Numbers.{Names}
+use Rattle.numbers.proofs.Laws.{same-number}
 use Rattle.scopes.specs.Scopes.{nearest}
-use Rattle.scopes.specs.Stacks.{NUMBERED, underAt, prefixAt, valueAt}
-use Rattle.bindings.specs.Spelled.{Declares, Here, rowAt, numberAt}
-use Rattle.bindings.specs.Asking.{topOf, agrees, elementSettled, Asked, ownTop}
-use Rattle.bindings.proofs.Scopes.{same-names, nearest-some}
-use Rattle.bindings.proofs.Deciding.{element-equal, element-xml, element-differs, nearest-declared}
+use Rattle.scopes.specs.Stacks.{prefixAt, valueAt}
+use Rattle.bindings.specs.Spelled.{Declares, Here, rowAt}
+use Rattle.bindings.specs.Asking.{topOf, elementSettled, Asked, ownTop}
+use Rattle.bindings.proofs.Scopes.{nearest-some}
+use Rattle.bindings.proofs.Deciding.{nearest-declared}
+use Rattle.bindings.proofs.Settled.{element-settled}
 use Rattle.repair.specs.Working.{Good, AtElement, AtOwn, Undeclared, After, SameAttributes, elementStep, valued, declaredFor}
 use Rattle.repair.proofs.Held.{part, count, part-count, parent-word, noted-row, asked, top-below, element-below, row, here, top-is}
 
@@ -68,25 +70,12 @@ module _ {table pool notes tops path : List ℕ} {rows bytes names limit e : ℕ
   top : topOf notes tops e ≡ nearest (prefixAt notes) (h .good .standing .scope) (noteAt notes e noting.PREFIX)
   top = top-is (h .good) (h .element) (noteAt notes e noting.PREFIX)
 
-  same-xml : sameBytes (n .prefix .bytes) xmlPrefix ≡ eqb (noteAt notes e noting.PREFIX) (underAt path NUMBERED 0)
-  same-xml = same-names (h .good .numbers .spelled) prefix (h .good .numbers .xml)
-
-  means : (b : Bool) → elementSettled notes tops path e ≡ b → elementMeans ns e ≡ b
-  unfolding elementSettled elementMeans
-  means true is =
-      by-cases (agrees notes tops e)
-      (λ q.
-      element-equal scope n (h .element .named) prefix uri
-      (ap (numberAt (valueAt notes)) (sym top) ∙ eqb-true (numberAt (valueAt notes) (topOf notes tops e)) (noteAt notes e noting.URI) q))
-      (λ q. element-xml scope n (h .element .named) prefix uri (same-xml ∙ rw q at is))
-  means false is =
-      let both = both-false (agrees notes tops e) (eqb (noteAt notes e noting.PREFIX) (underAt path NUMBERED 0)) is in
-      element-differs scope n (h .element .named) prefix uri
-      (λ z. eqb-false (numberAt (valueAt notes) (topOf notes tops e)) (noteAt notes e noting.URI) (both .0) (ap (numberAt (valueAt notes)) top ∙ z))
-      (same-xml ∙ both .1)
+  means : elementSettled notes tops path e ≡ elementMeans ns e
+  unfolding elementMeans
+  means = element-settled notes tops path scope e n (h .element .named) prefix uri (λ m bytes is. same-number (h .good .numbers .spelled) is (h .good .numbers .xml)) top
 
   repaired : (b : Bool) → elementSettled notes tops path e ≡ b → repairElement e ns ≡ cond b ns (declare e (n .prefix) (n .uri) ns)
-  repaired b is = element-by-meaning ns e (h .element .plain) ∙ ap (λ (m : Bool). cond m ns (declare e (n .prefix) (n .uri) ns)) (means b is)
+  repaired b is = element-by-meaning ns e (h .element .plain) ∙ ap (λ (m : Bool). cond m ns (declare e (n .prefix) (n .uri) ns)) (sym means ∙ is)
 
   -- Buffers that hold what the step makes.
   done : {table′ notes′ tops′ path′ : List ℕ} {made : State} → made ≡ elementStep e s → length tops′ ≡ length tops → Good table′ pool notes′ tops′ path′ rows bytes names limit (e + 1) made → SameAttributes notes notes′

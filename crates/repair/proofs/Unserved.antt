@@ -33,8 +33,9 @@ use Rattle.bindings.specs.Spelled.{numberAt}
 use Rattle.bindings.specs.Asking.{topOf, Asked, isUsed, Searched, LeastUnused}
 use Rattle.bindings.proofs.Deciding as deciding
 use Rattle.bindings.proofs.Free.{inUse, UsedBefore, not-below, not-before, least-is, noted-use}
+use Rattle.bindings.proofs.Held.{scope-positions}
 use Rattle.repair.specs.Working.{Good, AtAttribute, AtUnserved, AtTop, AfterAttribute, SameAttributes, isFree, endField, prefixed, declaredFor, Named, numberFor, pathFor}
-use Rattle.repair.proofs.Held.{part, count, part-count, noted-row, element-below, top-is, scope-positions}
+use Rattle.repair.proofs.Held.{part, count, part-count, noted-row, element-below, top-is}
 use Rattle.repair.proofs.Changed.{same-tree, numbers-named, named-new}
 use Rattle.repair.proofs.Steps.{good-named, core-set, prefix-core}
 use Rattle.repair.proofs.Declaring.{scope-same, serving-kept, none-first, nearest-none}

@@ -1,12 +1,14 @@
 -- Laws of specs/Lists.antt: tests, byte strings, and lists by tests.
 -- Assumes nothing.
-use Prim.Native.Nat.{ℕ, zero, suc, _+_, _<_, zero-le, suc-le-suc}
+use Prim.Native.Nat.{ℕ, zero, suc, _+_, _≤_, _<_, zero-le, suc-le-suc}
 use mathlib.Core.Path.{_≡_, refl, sym, _∙_, ap, subst}
-use mathlib.Core.Bool.{Bool, true, false, _&&_, _||_, not, true≢false}
+use mathlib.Core.Bool.{Bool, true, false, _&&_, _||_, not, true≢false, and-assoc, and-true}
 use mathlib.Core.List.{List, [], _∷_, _++_, map}
 use mathlib.Core.Option.{none, some, Option·none-ne-some, Option·some-injective}
 use native.Mathlib.Nat.{le-of-suc-le-suc, not-suc-le-zero, add-zero, add-suc, suc-add, suc-inj, suc-ne-zero}
-use lib.ListN.{length, getD, set}
+use native.Mathlib.Numerals.{add-one}
+use lib.ListN.{length, getD, drop, set, drop-of-length-le}
+use lib.Seq.{drop-cons}
 use lib.Dec.{T, eqb, eqb·suc-zero}
 use borrow.Author.Tests.{eqb-true, eq-eqb}
 use Rattle.rules.specs.Lists.{firstThat, filtered, anyOf, allOf, gathered, numbersFrom, isEmpty, sameBytes}
@@ -289,3 +291,11 @@ pub getD-numbersFrom : (i count k d : ℕ) → k < count → getD (numbersFrom i
 getD-numbersFrom i zero k d h = absurd (not-suc-le-zero h)
 getD-numbersFrom i (suc count) zero d h = sym (add-zero i)
 getD-numbersFrom i (suc count) (suc k) d h = getD-numbersFrom (suc i) count k d (le-of-suc-le-suc h) ∙ suc-add i k ∙ sym (add-suc i k)
+
+-- A test of all bytes: of those before i, and of those from i on.
+module _ (test : ℕ → Bool) (bytes : List ℕ) (all : Bool) (i : ℕ) where
+  pub all-byte : i < length bytes → ((all && test (getD bytes i 0)) && allOf test (drop (i + 1) bytes)) ≡ (all && allOf test (drop i bytes))
+  all-byte h = rw (add-one, and-assoc, drop-cons bytes i 0 h) refl
+
+  pub all-end : length bytes ≤ i → (all && allOf test (drop i bytes)) ≡ all
+  all-end h = rw (drop-of-length-le bytes h, and-true) refl

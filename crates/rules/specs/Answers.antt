@@ -35,6 +35,11 @@ numberOf Refusal.PoolRoom = record { number = 11; row = 0; word = 0 }
 numberOf (Refusal.OffsetWithoutLength r w) = record { number = 12; row = r .0; word = w }
 numberOf (Refusal.MustBeEmpty r w) = record { number = 13; row = r .0; word = w }
 numberOf (Refusal.MalformedUtf8 r w) = record { number = 14; row = r .0; word = w }
+numberOf (Refusal.NotMarkup r) = record { number = 20; row = r .0; word = 0 }
+numberOf (Refusal.Character r) = record { number = 21; row = r .0; word = 0 }
+numberOf Refusal.TextRoom = record { number = 22; row = 0; word = 0 }
+numberOf (Refusal.Undeclared r) = record { number = 23; row = r .0; word = 0 }
+numberOf (Refusal.Inherited r) = record { number = 24; row = r .0; word = 0 }
 numberOf Refusal.Mark = record { number = 30; row = 0; word = 0 }
 numberOf Refusal.Version = record { number = 31; row = 0; word = 0 }
 numberOf Refusal.Lengths = record { number = 32; row = 0; word = 0 }
@@ -153,7 +158,7 @@ unfoldable pub readBytes : Read → ℕ
 readBytes (Read.Done rows bytes) = bytes
 readBytes (Read.Refused x) = 0
 
--- The number and bytes of a bundle that was written.
+-- The number and bytes of a bundle or XML text that was written.
 unfoldable pub writtenNumber : Written → Number
 writtenNumber (Written.Done bytes) = notRefused
 writtenNumber (Written.Refused x) = numberOf x

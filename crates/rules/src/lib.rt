@@ -100,6 +100,16 @@ pub enum Refusal {
     MustBeEmpty { row: Row, word: u32 },
     // 14: a field that is not well-formed UTF-8.
     MalformedUtf8 { row: Row, word: u32 },
+    // 20: no element to write as text, or a row of a type that has no markup.
+    NotMarkup(Row),
+    // 21: a value that holds a character that XML does not allow.
+    Character(Row),
+    // 22: the output has too few bytes for the text.
+    TextRoom,
+    // 23: a name whose prefix does not mean its URI in scope.
+    Undeclared(Row),
+    // 24: a declaration outside the text that is in scope in it.
+    Inherited(Row),
     // 30: a bundle's mark is another, or not whole.
     Mark,
     // 31: a bundle is of another version, or ends before it.
@@ -151,7 +161,7 @@ pub enum Read {
     Refused(Refusal),
 }
 
-// What writing a bundle answers: how many bytes of the output it takes.
+// What writing a bundle or XML text answers: how many bytes of the output it takes.
 pub enum Written {
     Done { bytes: usize },
     Refused(Refusal),

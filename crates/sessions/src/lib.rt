@@ -1,8 +1,9 @@
-// The operations over the bytes of a session bundle: the check, the five lookups, reading and normalization. Each opens the
-// bundle into a table of its own and works there.
+// The operations over the bytes of a session bundle: the check, the five lookups, reading, normalization and XML text. Each
+// opens the bundle into a table of its own and works there.
 ghost use mathlib.Core.Path.{_≡_};
 ghost use lib.ListN.{length};
 ghost use Rattle.bundles.specs.Operations.{bundleRead, bundleChecked, bundleUriOfPrefix, bundlePrefixOfUri, bundleIsDefault, bundleInScopeUri, bundleInScopePrefix, bundleNormalized};
+ghost use Rattle.markup.specs.Writing.{bundleText};
 use bundles::Opened;
 use rules::Checked;
 use rules::InScope;
@@ -140,5 +141,21 @@ pub fn read(bundle: &[u8], out_table: &mut [u32], out_pool: &mut [u8]) -> Read
             out_pool,
         ),
         Opened::Refused(x) => transfers::refuse_read(out_table, out_pool, x),
+    }
+}
+
+// Writes the XML text of an element, or of a document's element. Success answers the bytes that it takes; the rest of the output
+// is zero, and all of it after a refusal.
+pub fn write_xml(bundle: &[u8], row: Row, out: &mut [u8]) -> Written
+    ensures { λ r. ⌜ r ≡ bundleText (now (bundle .entry)) (row .0) (length (now (out .entry))) .answer ⌝ }
+    ensures { λ _. ⌜ now (out .exit) ≡ bundleText (now (bundle .entry)) (row .0) (length (now (out .entry))) .bytes ⌝ }
+{
+    let mut table = [buffers::UNREAD; WORDS];
+    match bundles::read_rows(bundle, &mut table) {
+        Opened::Rows(n) => {
+            let pool = bundles::pool(bundle, n);
+            writer::write(&table[..rules::WIDTH * n], pool, row, out)
+        }
+        Opened::Refused(x) => bundles::refuse(out, x),
     }
 }

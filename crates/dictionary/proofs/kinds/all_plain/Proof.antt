@@ -7,7 +7,7 @@ use native.Mathlib.Omega.{arith}
 use denote.Ref.{now}
 use lib.ListN.{length, drop}
 use Rattle.rules.specs.Lists.{allOf}
-use Rattle.utf8.proofs.Steps.{all-byte, all-end}
+use Rattle.rules.proofs.Lists.{all-byte, all-end}
 use Rattle.dictionary.specs.Plain.{isPlainByte}
 use borrow.Author.Needs.{needs}
 use Rattle.dictionary.proofs.kinds.all_plain.Statement.{statement}

@@ -1,0 +1,89 @@
+-- The attributes and declarations of an element, put one behind the other along the links.
+-- Assumes nothing.
+use Prim.Native.Nat.{ℕ, zero, suc, _+_, _≤_, _<_}
+use mathlib.Core.Path.{_≡_, refl, sym, ap, _∙_}
+use mathlib.Core.Bool.{Bool, true}
+use mathlib.Core.List.{List, [], _∷_, _++_, map}
+use native.Mathlib.Omega.{arith}
+use lib.ListN.{length}
+use Rattle.rules.specs.Lists.{filtered, gathered, numbersFrom}
+use Rattle.rules.specs.Table.{nodes, Node, nodeAt, rowCount}
+use Rattle.rules.proofs.Lists.{by-cases}
+use Rattle.notes.specs.Notes.{FIRST, noteAt}
+use Rattle.buffers.specs.Writes.{Put}
+use Rattle.buffers.proofs.Writes.{put-nothing, put-behind}
+use Rattle.children.specs.Children.{isUnder, rowsFrom}
+use Rattle.children.proofs.Walking.{Reached, rows-first, reach-first, rows-next, reach-next, next-later, rows-end}
+use Rattle.markup.specs.Trees.{Qualified, isOwned, writtenAttribute, writtenAttributes}
+use Rattle.markup.specs.Markup.{nameMarkup, attributeMarkup, startTag}
+use Rattle.content.specs.Content.{Linked, before}
+
+-- What is shown of the rows that pass a test is shown of their positions.
+module _ {A B : Type 0} (f : B → List A) (g : Node → B) (passes : Node → Bool) (h : ℕ → Node) where
+  by-positions : (i count : ℕ) → gathered f (map g (filtered passes (map h (numbersFrom i count)))) ≡ gathered (λ d. f (g (h (before d)))) (filtered (λ d. passes (h (before d))) (numbersFrom (suc i) count))
+  by-positions i zero = refl
+  by-positions i (suc count) =
+      let s : before (suc i) ≡ i = omega arith in
+      by-cases (passes (h i))
+      (λ t. rw (s, t) (ap (λ l. f (g (h i)) ++ l) (by-positions (suc i) count) ∙ ap (λ k. f (g (h k)) ++ gathered (λ d. f (g (h (before d)))) (filtered (λ d. passes (h (before d))) (numbersFrom (suc (suc i)) count))) (sym s)))
+      (λ t. rw (s, t) (by-positions (suc i) count))
+
+module _ (table pool : List ℕ) where
+  -- what is put for the row at a position
+  abbrev pub shown : ℕ → List ℕ
+  shown d = attributeMarkup (writtenAttribute (nodeAt table pool (before d)))
+
+  abbrev pub whole : ℕ → List ℕ
+  whole e = gathered attributeMarkup (writtenAttributes (nodes table pool) e)
+
+  whole-shown : (e : ℕ) → whole e ≡ gathered shown (filtered (isUnder true table e) (numbersFrom 1 (rowCount table)))
+  unfolding writtenAttributes nodes
+  whole-shown e = by-positions attributeMarkup writtenAttribute (isOwned e) (nodeAt table pool) 0 (rowCount table)
+
+  module _ (links : List ℕ) (e : ℕ) where
+    abbrev n : ℕ
+    n = rowCount table
+
+    -- What is left from a position on, put from `to` on, is the whole put from `at` of the output at first.
+    pub record Left (linked : Linked table links) (row : e < n) (out₀ : List ℕ) (at : ℕ) (out : List ℕ) (to position : ℕ) : Type 0 where
+      pub reached : Reached (isUnder true table) FIRST links n (linked .owned) e row position
+      pub size : length out ≡ length out₀
+      pub rest : {r : ℕ} {out′ : List ℕ} → Put out to (gathered shown (rowsFrom (isUnder true table) n e position)) r out′ → Put out₀ at (whole e) r out′
+
+    module _ (linked : Linked table links) (row : e < n) (out₀ : List ℕ) (at : ℕ) where
+      pub left-start : (position : ℕ) → position ≡ noteAt links e FIRST → Left linked row out₀ at out₀ at position
+      left-start position head =
+          let first = rows-first (isUnder true table) FIRST links n (linked .owned) e row position head in
+          record {
+            reached = reach-first (isUnder true table) FIRST links n (linked .owned) e row position head;
+            size = refl;
+            rest = λ p. rw (whole-shown e, first) p;
+          }
+
+      module _ {out : List ℕ} {to position : ℕ} (l : Left linked row out₀ at out to position) where
+        pub left-row : position ≤ n
+        left-row = l .reached .within
+
+        pub left-end : position ≤ 0 → Put out₀ at (whole e) to out
+        left-end h =
+            let none : position ≡ 0 = omega arith in
+            l .rest (rw (none, rows-end (isUnder true table) n e) (put-nothing out to))
+
+        module _ (h : 0 < position) (next : ℕ) (link : next ≡ noteAt links (before position) (FIRST + 1)) where
+          pub left-later : 0 < next → position < next
+          left-later = next-later (isUnder true table) FIRST links n (linked .owned) e row position h (l .reached) next link
+
+          pub left-next : {out′ : List ℕ} {to′ : ℕ} → Put out to (shown position) to′ out′ → Left linked row out₀ at out′ to′ next
+          left-next p =
+              let more = rows-next (isUnder true table) FIRST links n (linked .owned) e row position h (l .reached) next link in
+              record {
+                reached = reach-next (isUnder true table) FIRST links n (linked .owned) e row position h (l .reached) next link;
+                size = p .size ∙ l .size;
+                rest = λ q. l .rest (rw more (put-behind p q));
+              }
+
+pub start-put :
+    (n : Qualified) (owned : List (Qualified × List ℕ)) {t : List ℕ} {at r r₁ r₂ r₃ : ℕ} {t′ t₁ t₂ t₃ : List ℕ} → Put t at (60 ∷ []) r₁ t₁ → Put t₁ r₁ (nameMarkup n) r₂ t₂
+    → Put t₂ r₂ (gathered attributeMarkup owned) r₃ t₃ → Put t₃ r₃ (62 ∷ []) r t′ → Put t at (startTag n owned) r t′
+unfolding startTag
+start-put n owned opens name attributes closes = put-behind (put-behind (put-behind opens name) attributes) closes

@@ -1,0 +1,11 @@
+pub mod Cases
+pub mod Whole
+pub mod Values
+pub mod Productions
+pub mod Reading
+pub mod Scopes
+pub mod Owned
+pub mod Unique
+pub mod Meant
+pub mod ReadingBack
+pub mod OverBundles

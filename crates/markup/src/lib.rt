@@ -1,0 +1,1 @@
+// The markup of the tree of an element.

@@ -1,0 +1,259 @@
+-- What the numbers of names say where the arrays stand is what the definitions say.
+-- Assumes nothing.
+use Prim.Native.Nat.{ℕ, _+_, _-_, _*_, _≤_, _<_}
+use mathlib.Core.Path.{_≡_, refl, sym, _∙_, ap, subst}
+use mathlib.Core.Bool.{Bool, true, false, _&&_, _||_, not}
+use mathlib.Core.List.{List, [], _∷_}
+use mathlib.Core.Option.{Option}
+use native.Mathlib.Omega.{arith}
+use lib.ListN.{length, getD}
+use lib.Dec.{eqb}
+use borrow.Author.Tests.{eqb-true, eqb-false, eq-eqb, ne-eqb, lt-ltb}
+use Rattle.rules.specs.Lists.{anyOf, isOneOf, isEmpty}
+use Rattle.rules.specs.Table.{MOST-ROWS, TYPE, PARENT, ELEMENT, ATTRIBUTE, DECLARATION, Node, nodes, node, word, rowCount, isElement}
+use Rattle.rules.specs.Lookups.{elementsFrom, declares, scopeOf, scopeAt}
+use Rattle.rules.specs.Demands.{elementMeans, attributeMeans, means, elementMeansIn, attributeMeansIn}
+use Rattle.rules.proofs.Lists.{by-cases, true-not-false}
+use Rattle.rules.proofs.Table.{length-nodes}
+use Rattle.rules.proofs.Accepted.{Accepted, unrefused, few-rows, namespace-accepted, owner-element}
+use Rattle.rules.proofs.Unique.{accepted-unique}
+use Rattle.rules.proofs.Again.{rows-passable}
+use Rattle.rows.proofs.Words.{type-word, parent-word}
+use Rattle.notes.specs.Notes.{PREFIX, LOCAL-NAME, VALUE, noteAt}
+use Rattle.numbers.specs.Noted.{NodeNumbered, declaredUri}
+use Rattle.scopes.specs.Scopes.{nearest}
+use Rattle.scopes.specs.Rows.{up}
+use Rattle.scopes.specs.Stacks.{TOPS, PREFIXES, topAt, prefixAt, valueAt, Untouched}
+use Rattle.scopes.specs.Standing.{Standing, Ready}
+use Rattle.scopes.proofs.Reading.{up-falls}
+use Rattle.scopes.proofs.Definitions.{tree-accepted}
+use Rattle.bindings.specs.Spelled.{Here, Scoped, rowAt}
+use Rattle.bindings.specs.Asking.{elementSettled, attributeSettled, Asked}
+use Rattle.bindings.proofs.Held.{top-within, scope-here}
+use Rattle.bindings.proofs.Deciding.{nearest-declared}
+use Rattle.bindings.proofs.Scopes.{blank-test}
+use Rattle.bindings.proofs.Settled.{element-settled, attribute-settled}
+use Rattle.markup.specs.Writing.{inSubtree, isUndeclared, nearer, isInherited}
+use Rattle.subtree.specs.Flags.{Flagged}
+use Rattle.rules.specs.Refusals.{firstRefusal, verdict}
+use Rattle.rules.specs.declared.Refusal.{Refusal}
+use Rattle.rules.specs.declared.Checked.{Checked}
+use Rattle.rules.proofs.Refusals.{first-alone, verdict-accepted, verdict-refused}
+use Rattle.subtree.proofs.Scans.{Scanning, flag-is, told-true, told-false}
+use Rattle.subtree.proofs.Flags.{in-none}
+use Rattle.meanings.specs.Names.{Walkable, undeclared, isNamed, placeOf, isUnsettled, isOpen}
+use Rattle.meanings.proofs.Inherited.{nearest-is-inherited}
+
+-- The test of a declaration, by the tests that it is made of.
+open-parts : (empty owned on free : Bool) → (true && ((not owned && not empty) && (on && free))) ≡ (true && not empty && not owned && on && free)
+open-parts true true on free = refl
+open-parts true false on free = refl
+open-parts false true on free = refl
+open-parts false false on free = refl
+
+-- What the functions answer, from what they read.
+module _ (table : List ℕ) (r : ℕ) {k : ℕ} (read : k ≡ word table r TYPE) where
+  pub named-told : (flags : List ℕ) {f : Bool} → f ≡ eqb (getD flags r 0) 1 → (f && (eqb k ELEMENT || eqb k ATTRIBUTE)) ≡ isNamed table flags r
+  named-told flags flag = rw (flag, read) refl
+
+  pub place-own : r < rowCount table → k ≡ ELEMENT → (r + 1 ≡ placeOf table r) × (r + 1 ≤ rowCount table)
+  place-own within is = (rw (sym read ∙ is) refl, omega arith)
+
+  pub place-owner : {u : ℕ} → r < rowCount table → (k ≡ ELEMENT → ⊥) → u ≡ up table (r + 1) → (u ≡ placeOf table r) × (u ≤ rowCount table)
+  place-owner within other above =
+      let falls = up-falls table (r + 1) (omega arith) in
+      (above ∙ rw (ne-eqb (word table r TYPE) ELEMENT (λ z. other (read ∙ z))) refl, omega arith)
+
+  module _ (notes tops path flags : List ℕ) (named : isNamed table flags r ≡ true) where
+    pub unsettled-element : {b : Bool} → k ≡ ELEMENT → b ≡ elementSettled notes tops path r → not b ≡ isUnsettled table notes tops path flags r
+    unsettled-element is settled = told-true named (rw (eq-eqb (word table r TYPE) ELEMENT (sym read ∙ is), settled) refl)
+
+    pub unsettled-attribute : {b : Bool} → (k ≡ ELEMENT → ⊥) → b ≡ attributeSettled notes tops path r → not b ≡ isUnsettled table notes tops path flags r
+    unsettled-attribute other settled = told-true named (rw (ne-eqb (word table r TYPE) ELEMENT (λ z. other (read ∙ z)), settled) refl)
+
+  module _ (notes tops : List ℕ) (e : ℕ) where
+    pub open-read :
+        {p v n t : ℕ} → k ≡ DECLARATION → p ≡ word table r PARENT → v ≡ noteAt notes r VALUE → n ≡ noteAt notes r LOCAL-NAME → t ≡ topAt tops PREFIXES n
+        → ((not (eqb p e) && not (eqb v 0)) && eqb t (r + 1)) ≡ isOpen table notes tops e r
+    open-read is parent value prefix top = told-true (eq-eqb (word table r TYPE) DECLARATION (sym read ∙ is)) (rw (parent, value, top, prefix) refl)
+
+    pub open-other : (k ≡ DECLARATION → ⊥) → false ≡ isOpen table notes tops e r
+    open-other other = told-false _ (ne-eqb (word table r TYPE) DECLARATION (λ z. other (read ∙ z)))
+
+module _ {table pool notes tops path : List ℕ} (w : Walkable table pool notes tops path) where
+  abbrev ns : List Node
+  ns = nodes table pool
+
+  pub is-accepted : Accepted table pool
+  is-accepted = unrefused table pool (w .accepted)
+
+  pub few : rowCount table ≤ MOST-ROWS
+  few = few-rows table pool (is-accepted .size)
+
+  row-within : {r : ℕ} → r < rowCount table → r < length ns
+  row-within h = rw (length-nodes table pool) h
+
+  noted-row : (r : ℕ) → r < rowCount table → NodeNumbered notes (w .spelling) (w .names) r (node ns r)
+  noted-row r h = w .numbered r (row-within h)
+
+  pub ready : Ready table notes tops path
+  ready =
+      record {
+        room =
+            record {
+              small = few;
+              noted = w .noted;
+              placed = w .placed;
+              prefixes = λ d some? low. omega (arith, noted-row (d - 1) (omega arith) .local .known, w .topped);
+              values = λ d some? low. omega (arith, noted-row (d - 1) (omega arith) .value .known, w .topped);
+            };
+        linked = w .linked;
+      }
+
+  pub open-room : (r : ℕ) → r < rowCount table → TOPS * noteAt notes r LOCAL-NAME + TOPS ≤ length tops
+  open-room r h = omega (arith, noted-row r h .local .known, w .topped)
+
+  -- The arrays moved.
+  pub walkable-moved : (tops′ path′ : List ℕ) → length tops′ ≡ length tops → length path′ ≡ length path → Untouched path path′ → Walkable table pool notes tops′ path′
+  walkable-moved tops′ path′ ts ps kept =
+      record {
+        accepted = w .accepted;
+        spelling = w .spelling;
+        names = w .names;
+        spelled = w .spelled;
+        numbered = w .numbered;
+        xml = λ n bytes is. ap (eqb n) (kept 0) ∙ w .xml n bytes is;
+        topped = rw ts (w .topped);
+        noted = w .noted;
+        placed = rw ps (w .placed);
+        linked = w .linked;
+      }
+
+  pub asked : (q : ℕ) → Standing table notes tops path q → (r : ℕ) → r < rowCount table → Asked notes tops path r
+  asked q standing r h =
+      record {
+        row = omega (arith, w .noted);
+        prefix = omega (arith, noted-row r h .prefix .known, w .topped);
+        xml = omega (arith, w .placed);
+        top = omega (arith, top-within table notes tops path q standing (noteAt notes r PREFIX), w .noted);
+      }
+
+  -- At an element.
+  module _ (e : ℕ) (standing : Standing table notes tops path (e + 1)) (within : e < rowCount table) (kind : isElement (node ns e .type) ≡ true) where
+    abbrev scoped : Scoped table notes tops path ns (w .spelling) (w .names) e
+    scoped =
+        record {
+          pool = pool;
+          rows = refl;
+          small = few;
+          tree = tree-accepted table pool is-accepted;
+          passable = rows-passable table pool is-accepted;
+          within = within;
+          kind = kind;
+          spelled = w .spelled;
+          numbered = w .numbered;
+          standing = standing;
+        }
+
+    here : Here (w .spelling) (w .names) (prefixAt notes) (valueAt notes) (λ k. node ns (k - 1)) (standing .scope) (scopeAt ns e)
+    here = scope-here scoped
+
+    top-is : (n : ℕ) → topAt tops PREFIXES n ≡ nearest (prefixAt notes) (standing .scope) n
+    top-is n = standing .on .prefixes .tops n
+
+    module _ (r : ℕ) (below : r < rowCount table) where
+      named-as : isOneOf (ELEMENT ∷ ATTRIBUTE ∷ []) (node ns r .type) ≡ true → (elementSettled notes tops path r ≡ elementMeansIn (scopeAt ns e) (node ns r)) × (attributeSettled notes tops path r ≡ attributeMeansIn (scopeAt ns e) (node ns r))
+      named-as kind? =
+          let named = namespace-accepted ns (length pool) r (is-accepted .row r (row-within below)) kind? in
+          let n = noted-row r below in
+          let top = top-is (noteAt notes r PREFIX) in
+          (element-settled notes tops path here r (node ns r) named (n .prefix) (n .uri) (w .xml) top, attribute-settled notes tops path here r (node ns r) named (n .prefix) (n .uri) (w .xml) top)
+
+      -- 24.
+      pub open-is : isOpen table notes tops e r ≡ isInherited ns e r
+      unfolding isInherited scopeAt
+      open-is =
+          let type = type-word table pool r below in
+          let parent = parent-word table pool r below in
+          by-cases (eqb (word table r TYPE) DECLARATION)
+          (λ q.
+          let kind? : node ns r .type ≡ DECLARATION = type ∙ eqb-true (word table r TYPE) DECLARATION q in
+          let number = noted-row r below in
+          let valued : declaredUri (node ns r) ≡ node ns r .value .bytes = rw (eq-eqb (node ns r .type) DECLARATION kind?) refl in
+          let value : isEmpty (node ns r .value .bytes) ≡ eqb (noteAt notes r VALUE) 0 = ap isEmpty (sym valued) ∙ blank-test (w .spelled) (number .value) in
+          let inherited =
+          nearest-is-inherited ns (accepted-unique table pool is-accepted) (elementsFrom ns e) r (topAt tops PREFIXES (noteAt notes r LOCAL-NAME)) (row-within below) kind?
+          (nearest-declared here (number .local) ∙ ap (rowAt (λ k. node ns (k - 1))) (sym (top-is (noteAt notes r LOCAL-NAME))))
+          (rw (length-nodes table pool) (top-within table notes tops path (e + 1) standing (noteAt notes r LOCAL-NAME))) in
+          rw (q, eq-eqb (node ns r .type) DECLARATION kind?, value, sym parent, inherited)
+          (open-parts (eqb (noteAt notes r VALUE) 0) (eqb (node ns r .parent) e) (isOneOf (elementsFrom ns e) (node ns r .parent)) (not (anyOf (declares (node ns r .local .bytes)) (scopeOf ns (nearer (node ns r .parent) (elementsFrom ns e)))))))
+          (λ q. rw (q, ne-eqb (node ns r .type) DECLARATION (λ z. eqb-false (word table r TYPE) DECLARATION q (sym type ∙ z))) refl)
+
+  -- 23.
+  module _ (flags : List ℕ) (e : ℕ) (flagged : Flagged table flags e (rowCount table)) (element : isElement (node ns e .type) ≡ true) (q : ℕ) (standing : Standing table notes tops path q)
+      (r : ℕ) (below : r < rowCount table) (at : isNamed table flags r ≡ true → q ≡ placeOf table r) where
+    in-flag : isOneOf (ELEMENT ∷ ATTRIBUTE ∷ []) (node ns r .type) ≡ (eqb (word table r TYPE) ELEMENT || (eqb (word table r TYPE) ATTRIBUTE || false))
+    in-flag = rw (type-word table pool r below) refl
+
+    -- an attribute of the subtree has an owner
+    owned : inSubtree ns e r ≡ true → node ns r .type ≡ ATTRIBUTE → (node ns r .parent < r) × (isElement (node ns (node ns r .parent) .type) ≡ true)
+    owned inside kind =
+        owner-element ns (length pool) r (is-accepted .row r (row-within below)) (rw kind refl)
+        (λ alone.
+        true-not-false inside
+        (in-none ns e r (λ same. true-not-false (subst (λ (k : ℕ). isElement (node ns k .type) ≡ true) (sym same) element) (rw kind refl)) (omega (arith, alone, few))))
+
+    element-is : eqb (word table r TYPE) ELEMENT ≡ true → isNamed table flags r ≡ true → elementSettled notes tops path r ≡ means ns r
+    unfolding means elementMeans
+    element-is t named =
+        let kind : node ns r .type ≡ ELEMENT = type-word table pool r below ∙ eqb-true (word table r TYPE) ELEMENT t in
+        let place : q ≡ r + 1 = at named ∙ rw t refl in
+        rw (eq-eqb (node ns r .type) ELEMENT kind)
+        (named-as r (subst (Standing table notes tops path) place standing) below (rw kind refl) r below (rw kind refl) .0)
+
+    attribute-is : inSubtree ns e r ≡ true → eqb (word table r TYPE) ELEMENT ≡ false → eqb (word table r TYPE) ATTRIBUTE ≡ true → isNamed table flags r ≡ true → attributeSettled notes tops path r ≡ means ns r
+    unfolding means attributeMeans up
+    attribute-is inside t u named =
+        let kind : node ns r .type ≡ ATTRIBUTE = type-word table pool r below ∙ eqb-true (word table r TYPE) ATTRIBUTE u in
+        let o = owned inside kind in
+        let parent = parent-word table pool r below in
+        let row : r + 1 - 1 ≡ r = omega arith in
+        let less : word table r PARENT < r = subst (λ (k : ℕ). k < r) parent (o .0) in
+        let place : q ≡ node ns r .parent + 1 = at named ∙ rw (t, row, lt-ltb (word table r PARENT) r less, parent) refl in
+        rw (ne-eqb (node ns r .type) ELEMENT (λ z. omega (arith, kind)))
+        (named-as (node ns r .parent) (subst (Standing table notes tops path) place standing) (omega (arith, o .0)) (o .1) r below (rw kind refl) .1)
+
+    pub unsettled-is : isUnsettled table notes tops path flags r ≡ undeclared ns e r
+    unfolding isUndeclared
+    unsettled-is =
+        let flag = flag-is table pool flags e flagged r below in
+        by-cases (inSubtree ns e r)
+        (λ i.
+        by-cases (eqb (word table r TYPE) ELEMENT)
+        (λ t.
+        rw (flag, in-flag, i, t)
+        (ap not (element-is t (rw (flag, i, t) refl))))
+        (λ t.
+        by-cases (eqb (word table r TYPE) ATTRIBUTE)
+        (λ u. rw (flag, in-flag, i, t, u) (ap not (attribute-is i t u (rw (flag, i, t, u) refl))))
+        (λ u. rw (flag, in-flag, i, t, u) refl)))
+        (λ i. rw (flag, i) refl)
+
+-- The loop of refusal 23 has come to row r.
+pub record Checking (table notes tops₀ path₀ flags tops path : List ℕ) (position r : ℕ) : Type 0 where
+  pub topsLength : length tops ≡ length tops₀
+  pub pathLength : length path ≡ length path₀
+  pub untouched : Untouched path₀ path
+  pub standing : Standing table notes tops path position
+  pub low : position ≤ rowCount table
+  pub scanning :
+      (e : ℕ) (pool : List ℕ) → Walkable table pool notes tops₀ path₀ → Flagged table flags e (rowCount table) → isElement (node (nodes table pool) e .type) ≡ true
+      → Scanning table pool (undeclared (nodes table pool) e) Refusal.Undeclared r
+
+-- Two refusals, one after the other.
+module _ (a b : Option Refusal) {d : Checked} (told : d ≡ verdict a) where
+  pub second-told : {i : Checked} → d ≡ Checked.Accepted → i ≡ verdict b → i ≡ verdict (firstRefusal (a ∷ b ∷ []))
+  second-told is other = rw (verdict-accepted a (sym told ∙ is)) (other ∙ ap verdict (first-alone b))
+
+  pub first-told : (x : Refusal) → d ≡ Checked.Refused x → Checked.Refused x ≡ verdict (firstRefusal (a ∷ b ∷ []))
+  first-told x is = rw (verdict-refused a x (sym told ∙ is)) refl

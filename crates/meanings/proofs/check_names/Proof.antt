@@ -1,0 +1,88 @@
+-- `meanings::check_names` meets its contract.
+-- Assumes nothing.
+use native.Mathlib.Omega.{arith}
+use Rattle.rules.specs.Table.{nodes}
+use Rattle.rules.specs.declared.Refusal.{Refusal}
+use Rattle.markup.specs.Writing.{lowestRow, isInherited}
+use Rattle.meanings.specs.Names.{undeclared}
+use Rattle.meanings.proofs.Names.{few, ready, open-room, walkable-moved, second-told, first-told}
+use borrow.Author.Needs.{needs}
+use Rattle.meanings.proofs.check_names.Statement.{statement}
+use Rattle.meanings.proofs.check_names.Tie as tie
+
+cast-position : tie.Need-cast-position
+cast-position c = let s = c .before .before .before .before .before .before in record { fits = omega (arith, few (s .pre .0 .1), s .pre .1 .1 .0) }
+
+add-position : tie.Need-add-position
+add-position c = let s = c .before .before .before .before .before .before in record { fits = omega (arith, few (s .pre .0 .1), s .pre .1 .1 .0) }
+
+go-requires : tie.Need-go-requires
+go-requires c κs =
+    let s = c .before .before .before .before .before .before .before .before in
+    (ready (s .pre .0 .1), ((omega arith, omega (arith, s .pre .1 .1 .0)), s .pre .1 .0))
+
+check-inherited-requires : tie.Need-check-inherited-requires
+check-inherited-requires c κs =
+    let s = c .before .before .before .before .before .before .before .before .before .before .before .before .before .before in
+    let go = c .before .before .before .before .before .go in
+    let w = s .pre .0 .1 in
+    let moved = (walkable-moved w (go .last .1 .1 .0) (go .last .1 .1 .1 .0) (go .kept .1 .1 .0) (go .kept .1 .1 .1 .0) (go .ensures .1)) in
+    ((few w, w .noted), λ r below. open-room moved r below)
+
+check-declared-requires : tie.Need-check-declared-requires
+check-declared-requires c κs =
+    let s = c .before .before .before .before .before .before .before .before .before .before .before .before .before .before .before .before .before in
+    let go = c .before .before .before .before .before .before .before .before .go in
+    ((s .pre .0 .0, (walkable-moved (s .pre .0 .1) (go .last .1 .1 .0) (go .last .1 .1 .1 .0) (go .kept .1 .1 .0) (go .kept .1 .1 .1 .0) (go .ensures .1))), ((go .ensures .0, omega (arith, s .pre .1 .1 .0)), s .pre .1 .1 .1))
+
+enum-told : tie.Need-enum-told
+enum-told c = search needs
+
+enum-known-why : tie.Need-enum-known-why
+enum-known-why c = search needs
+
+same-length : tie.Need-same-length
+same-length c = search needs
+
+same-length-2 : tie.Need-same-length-2
+same-length-2 c = search needs
+
+returns : tie.Need-returns
+returns c =
+    let s = c .before .before .before .before .before .before .before .before .before .before .before .before .before .before .before .before .before .before .before .before .before .before .before .before in
+    let go = c .before .before .before .before .before .before .before .before .before .before .before .before .before .before .before .go in
+    λ pool w flagged kind.
+    let moved = (walkable-moved w (go .last .1 .1 .0) (go .last .1 .1 .1 .0) (go .kept .1 .1 .0) (go .kept .1 .1 .1 .0) (go .ensures .1)) in
+    second-told (lowestRow (nodes (s .args .table .now) pool) (undeclared (nodes (s .args .table .now) pool) (s .args .element .0)) Refusal.Undeclared) (lowestRow (nodes (s .args .table .now) pool) (isInherited (nodes (s .args .table .now) pool) (s .args .element .0)) Refusal.Inherited) (c .before .before .before .before .before .before .check-declared .ensures (s .args .element .0) pool moved flagged kind) (c .enum-told .given .1) (c .before .before .before .before .before .before .before .before .before .check-inherited .ensures pool (go .last .1 .1 .1 .0) moved (go .ensures .0) (s .pre .1 .1 .0) kind)
+
+same-length-3 : tie.Need-same-length-3
+same-length-3 c = search needs
+
+same-length-4 : tie.Need-same-length-4
+same-length-4 c = search needs
+
+returns-2 : tie.Need-returns-2
+returns-2 c =
+    let s = c .before .before .before .before .before .before .before .before .before .before .before .before .before .before .before .before .before .before .before .before .before .before .before .before .before in
+    let go = c .before .before .before .before .before .before .before .before .before .before .before .before .before .before .before .before .go in
+    λ pool w flagged kind.
+    let moved = (walkable-moved w (go .last .1 .1 .0) (go .last .1 .1 .1 .0) (go .kept .1 .1 .0) (go .kept .1 .1 .1 .0) (go .ensures .1)) in
+    first-told (lowestRow (nodes (s .args .table .now) pool) (undeclared (nodes (s .args .table .now) pool) (s .args .element .0)) Refusal.Undeclared) (lowestRow (nodes (s .args .table .now) pool) (isInherited (nodes (s .args .table .now) pool) (s .args .element .0)) Refusal.Inherited) (c .before .before .before .before .before .before .before .check-declared .ensures (s .args .element .0) pool moved flagged kind) _ (c .before .why .given .1)
+
+pub check-names-spec : {M : Type 1} → statement M
+check-names-spec =
+    tie.close
+    (tie.spec
+    cast-position
+    add-position
+    go-requires
+    check-inherited-requires
+    check-declared-requires
+    enum-told
+    enum-known-why
+    same-length
+    same-length-2
+    returns
+    same-length-3
+    same-length-4
+    returns-2)

@@ -1,0 +1,51 @@
+-- `meanings::is_open` meets its contract.
+-- Assumes nothing.
+use Rattle.meanings.proofs.Names.{open-read, open-other}
+use borrow.Author.Needs.{needs}
+use Rattle.meanings.proofs.is_open.Statement.{statement}
+use Rattle.meanings.proofs.is_open.Tie as tie
+
+kind-requires : tie.Need-kind-requires
+kind-requires c κs = search needs
+
+parent-requires : tie.Need-parent-requires
+parent-requires c κs = search needs
+
+note-requires : tie.Need-note-requires
+note-requires c κs = search needs
+
+note-requires-2 : tie.Need-note-requires-2
+note-requires-2 c κs = search needs
+
+nearest-requires : tie.Need-nearest-requires
+nearest-requires c κs = search needs
+
+cast-result : tie.Need-cast-result
+cast-result c = search needs
+
+add-result : tie.Need-add-result
+add-result c = search needs
+
+returns : tie.Need-returns
+returns c =
+    let s = c .before .before .before .before .before .before .before .before .before .before .before .before in
+    open-read (s .args .table .now) (s .args .row .0) (c .before .before .before .before .before .before .before .before .kind .ensures) (s .args .notes .now) (s .args .tops .now) (s .args .element .0) (c .before .before .before .before .before .before .before .if1 .taken) (c .before .before .before .before .before .before .parent .ensures) (c .before .before .before .before .before .note .ensures) (c .before .before .before .before .note2 .ensures) (c .before .before .before .nearest .ensures)
+
+returns-2 : tie.Need-returns-2
+returns-2 c =
+    let s = c .before .before .before .before .before in
+    open-other (s .args .table .now) (s .args .row .0) (c .before .kind .ensures) (s .args .notes .now) (s .args .tops .now) (s .args .element .0) (c .if1 .left)
+
+pub is-open-spec : {M : Type 1} → statement M
+is-open-spec =
+    tie.close
+    (tie.spec
+    kind-requires
+    parent-requires
+    note-requires
+    note-requires-2
+    nearest-requires
+    cast-result
+    add-result
+    returns
+    returns-2)

@@ -1,0 +1,4 @@
+pub mod Start
+pub mod Flags
+pub mod Scans
+pub mod Parts
