@@ -42,7 +42,7 @@ target/example/%: example/%.c include/noemathu.h $(LIBRARY)
 	mkdir -p target/example
 	$(CC) -std=c11 $(CFLAGS) $(warnings) -Iinclude -o $@ $< $(LIBRARY)
 
-test: test-header test-boundary test-example test-install test-utf8 test-compare
+test: test-header test-boundary test-example test-install test-utf8 test-xml test-compare
 	@echo "the tests of the C interface passed"
 
 # The header alone, as C and as C++.
@@ -79,9 +79,13 @@ test-install:
 test-utf8: $(LIBRARY)
 	tests/utf8 --library $(LIBRARY)
 
+# From every XML text libxml2 and expat get the tree that the table has.
+test-xml: $(LIBRARY)
+	tests/xml --library $(LIBRARY) --count $(BUNDLES)
+
 # The library and the second reading of the rules give the same answers, and the comparison finds the planted faults.
 test-compare: $(LIBRARY)
 	tests/compare --library $(LIBRARY) --count $(BUNDLES)
 	tests/test-the-test --library $(LIBRARY)
 
-.PHONY: all install example test test-header test-boundary test-example test-install test-utf8 test-compare
+.PHONY: all install example test test-header test-boundary test-example test-install test-utf8 test-xml test-compare

@@ -1,5 +1,6 @@
 /* Runs an operation on a bundle from a file, so many times, and prints what it answers: the number and row of the refusal,
-   what a lookup finds and how long it is, how many rows and bytes an output takes. Run 0 times, it is run once on a stack
+   what a lookup finds and how long it is, how many rows and bytes an output takes. The operation `copy` is what writing XML
+   text is held against: the check, and a copy of the text that is there already. Run 0 times, it is run once on a stack
    of its own, and the bytes of stack that it took are printed.
    Usage: driver OPERATION FILE TIMES [ROW QUERY] */
 #include <noemathu.h>
@@ -12,6 +13,10 @@ static uint8_t bundle[NOEMATHU_BUNDLE_MOST], out[NOEMATHU_BUNDLE_MOST], pool[NOE
 static uint32_t table[NOEMATHU_MOST_WORDS], row;
 static size_t length, rows, bytes, query_length;
 static const uint8_t *query;
+
+/* Two outputs for XML text, as large as the text of the whole bundle. */
+static uint8_t *text, *copied;
+static size_t text_room, text_length;
 
 /* What the last run answered. */
 static noemathu_refusal refusal;
@@ -66,12 +71,27 @@ static void write_bundle(void)
     answer[0] = used.bytes;
 }
 
+static void write_xml(void)
+{
+    noemathu_used used = noemathu_write_xml(bundle, length, row, text, text_room);
+    refusal = used.refusal;
+    answer[0] = text_length = used.bytes;
+}
+
+static void copy(void)
+{
+    refusal = noemathu_check(bundle, length);
+    memcpy(copied, text, text_length);
+    answer[0] = text_length;
+    answer[1] = text_length ? copied[text_length - 1] : 0;
+}
+
 static const struct {
     const char *name;
     void (*run)(void);
 } operations[] = {{"check", check}, {"uri", uri}, {"prefix", prefix}, {"default", is_default},
                   {"in_scope_uri", in_scope_uri}, {"in_scope_prefix", in_scope_prefix}, {"normalize", normalize},
-                  {"read", read_bundle}, {"write", write_bundle}};
+                  {"read", read_bundle}, {"write", write_bundle}, {"write_xml", write_xml}, {"copy", copy}};
 
 static void *run_once(void *operation)
 {
@@ -116,6 +136,15 @@ int main(int argc, char **argv)
     query_length = strlen((const char *)query);
     if (operation == write_bundle)
         read_bundle();
+    if (operation == write_xml || operation == copy) {
+        text_room = noemathu_xml_room(bundle);
+        text = malloc(text_room);
+        copied = malloc(text_room);
+        if (!text || !copied)
+            return 2;
+    }
+    if (operation == copy)
+        write_xml();
     if (atol(argv[3]) == 0) {
         printf("%zu\n", stack_of(operation) - stack_of(nothing));
         return 0;

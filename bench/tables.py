@@ -207,6 +207,48 @@ def chain(rows):
     return table
 
 
+def texts_of(rows, line, length):
+    """Texts of some length under one element, each somewhere in 24,000 bytes of repeated lines."""
+    table = Table()
+    root = start(table)
+    offset = len(table.pool)
+    table.pool += (line * (24000 // len(line) + 1)).encode()[:24000]
+    while len(table.rows) < rows:
+        table.add(3, root, value=(offset + 29 * len(table.rows) % (24000 - length), length))
+    return table
+
+
+def long_texts(rows):
+    """Texts of 1,000 bytes, of which none is escaped."""
+    return texts_of(rows, "The quick brown fox jumps over the lazy dog. ", 1000)
+
+
+def prose(rows):
+    """Texts of 1,000 bytes, of which one in 31 is escaped."""
+    return texts_of(rows, "The \"quick\" brown fox jumps over the lazy dog & then he sleeps in the shadow of an old tree. ", 1000)
+
+
+def escapes(rows):
+    """Texts of 100 bytes, of which every second is escaped."""
+    return texts_of(rows, "a&b<c>d\"e\r", 100)
+
+
+def quotes(rows):
+    """Texts of 100 bytes, of which every one is escaped."""
+    return texts_of(rows, "\"", 100)
+
+
+def tagged(rows):
+    """Elements with four attributes each, whose values have 18 bytes, of which one is escaped."""
+    table, numbers = Table(), Numbers(7)
+    root = start(table)
+    while len(table.rows) + 5 <= rows:
+        element = add_element(table, numbers, root, numbers.below(4))
+        for word in ("id", "type", "href", "lang"):
+            table.add(2, element, local=table.place(word), value=table.place("%04d & twelve more" % numbers.below(500)))
+    return fill(table, root, rows)
+
+
 def add_element(table, numbers, parent, k):
     return table.add(1, parent, table.place(PREFIXES[k]), table.place(WORDS[numbers.below(17)]), table.place(URIS[k]))
 
@@ -386,6 +428,7 @@ def both_declared(rows):
 CHECKED = (ordinary, cyrillic, accent, apart, one_owner, texts, long_names)
 SLOW = (one_uri, overlapping, equal_names, one_bucket, by_turns_deep, by_turns_wide)
 ASKED = (chain,)
+WRITTEN = (long_texts, prose, escapes, quotes, tagged)
 NORMALIZED = (typical, deep, wide, shadowed, shadowed_once, numbered, references)
 DEEPEST = (elements_own, elements_declared, references_own, references_declared, both_own, both_declared)
 
@@ -393,7 +436,7 @@ DEEPEST = (elements_own, elements_declared, references_own, references_declared,
 def main():
     if len(sys.argv) != 2:
         sys.exit(__doc__)
-    for make in CHECKED + ASKED + NORMALIZED:
+    for make in CHECKED + ASKED + WRITTEN + NORMALIZED:
         for rows in (250, 500, 1000):
             make(rows).write("%s/%s-%d" % (sys.argv[1], make.__name__, rows))
     ordinary(10).write("%s/ordinary-10" % sys.argv[1])

@@ -1,8 +1,8 @@
 /* A host's work: two makers hand over their nodes, each as a bundle of its own. The host grafts both into one session
-   bundle, asks what a prefix means at a node, normalizes the session, and asks again.
+   bundle, asks what a prefix means at a node, writes the session as XML, normalizes it, and asks and writes again.
 
-   The tree is printed as XML with the namespace URI of each name in braces. Those are what the makers meant; before
-   normalization the declarations say something else. */
+   The tree is printed like XML with the namespace URI of each name in braces. Those are what the makers meant; before
+   normalization the declarations say something else, and there is no XML text that means the same. */
 #include <noemathu.h>
 #include <stdio.h>
 #include <stdlib.h>
@@ -169,7 +169,22 @@ static void print_children(const struct bundle *bundle, uint32_t parent, int dep
     }
 }
 
-/* The tree, and what a prefix means at a row of it by the declarations in scope. */
+/* The XML text of the whole session, from its first row, or why there is none. */
+static void print_text(const struct bundle *bundle)
+{
+    size_t room = noemathu_xml_room(bundle->bytes);
+    uint8_t *text = malloc(room);
+    if (!text)
+        exit(1);
+    noemathu_used used = noemathu_write_xml(bundle->bytes, bundle->length, 0, text, room);
+    if (used.refusal.number == NOEMATHU_NOT_REFUSED)
+        printf("%.*s\n", (int)used.bytes, (const char *)text);
+    else
+        print_refusal(used.refusal);
+    free(text);
+}
+
+/* The tree, what a prefix means at a row of it by the declarations in scope, and its XML text. */
 static void show(const char *title, const struct bundle *bundle, uint32_t row, const char *prefix)
 {
     noemathu_found found =
@@ -179,7 +194,10 @@ static void show(const char *title, const struct bundle *bundle, uint32_t row, c
     print_children(bundle, NOEMATHU_NONE, 1);
     printf("at row %u the prefix %s means ", row, prefix);
     print_place(bundle, found.place);
-    puts(found.found == NOEMATHU_PLACE ? "\n" : "nothing\n");
+    puts(found.found == NOEMATHU_PLACE ? "" : "nothing");
+    fputs("as XML text: ", stdout);
+    print_text(bundle);
+    puts("");
 }
 
 int main(void)

@@ -3,8 +3,8 @@
    A session bundle is a tree of XML nodes as one string of bytes. The functions
    here check a bundle, tell what a prefix or a namespace URI means at a node,
    and normalize a bundle: they set and add namespace declarations so that every
-   element and attribute means the URI that its maker gave it. Two more turn a
-   bundle into rows and names, and back.
+   element and attribute means the URI that its maker gave it. One writes an
+   element as XML text, and two more turn a bundle into rows and names, and back.
 
    Link with -lnoemathu, or see `pkg-config --cflags --libs noemathu`. The
    library is for x86-64 and calls nothing but the C library's memory functions.
@@ -90,6 +90,9 @@
      00 00 00 00  00 00 00 00
      01 00 00 00  01 00 00 00                      value: at 1, 1 byte
 
+   That bundle is <a xmlns="U"></a> as XML text, of 17 bytes: see
+   noemathu_write_xml.
+
 
    Memory
    ------
@@ -124,7 +127,8 @@
 
    The first fault is named. The numbers are tried in this order: 30, 31, 32; 1;
    then row after row, each for 2; its fields in order, each for 3 and 12; its
-   fields again for 13, and again for 14; 4 to 7; then 8, 9, 10, 11; then 33.
+   fields again for 13, and again for 14; 4 to 7; then 8, 9; 10, 11, 33; 20, 21,
+   23, 24, 22.
 
    What was found is told by its place, an offset and a length in the pool of the
    bundle that was asked: see noemathu_bytes. */
@@ -155,9 +159,14 @@ extern "C" {
 #define NOEMATHU_BUNDLE_BYTES(rows, pool_bytes) \
     (NOEMATHU_BUNDLE_HEADER + 4 * NOEMATHU_ROW_WORDS * (size_t)(rows) + (size_t)(pool_bytes))
 
+/* The bytes of the longest XML text there is: the pool is a letter and quotes, it
+   is the value of 1,023 rows, and each quote is written as &quot; there. For what
+   a bundle needs see noemathu_xml_room. */
+#define NOEMATHU_XML_MOST 201124912
+
 /* Bytes of stack that are enough for any call. Measured were at most 60,968 for
    noemathu_write, 101,960 for noemathu_check and noemathu_read, 114,728 for the
-   lookups and 191,856 for noemathu_normalize. */
+   lookups, 140,856 for noemathu_write_xml and 191,856 for noemathu_normalize. */
 #define NOEMATHU_STACK 262144
 
 /* The parent of a row that has none. */
@@ -225,7 +234,8 @@ extern "C" {
 #define NOEMATHU_REFUSED_NO_SUCH_ROW 8
 
 /* A row of type 257 or 258, which has no namespace to keep, stands in what is to
-   be normalized. Make it a row of type 1 or 2, with its URI. */
+   be normalized or in the bundle of what is to be written as XML text. Make it a
+   row of type 1 or 2, with its URI. */
 #define NOEMATHU_REFUSED_LEVEL1 9
 
 /* The result has more rows than the output table, or than 1,024. Lend a larger
@@ -250,6 +260,31 @@ extern "C" {
    longer than need be, or more than U+10FFFF. Encode the text as UTF-8; let
    offset and length fall between characters. */
 #define NOEMATHU_REFUSED_MALFORMED_UTF8 14
+
+/* XML text is written from an element, or from a document that has one, and the
+   row is neither; or it is in what is to be written, and is no element,
+   attribute, text or declaration. Name the element; take comments, instructions,
+   entity references and the like out first, and make CDATA a text. */
+#define NOEMATHU_REFUSED_NOT_MARKUP 20
+
+/* The row's value holds a character that XML 1.0 has no way to write: below 32,
+   other than tab, line feed and carriage return, or U+FFFE or U+FFFF. Encode what
+   is no text, as base64 does. */
+#define NOEMATHU_REFUSED_CHARACTER 21
+
+/* The output is too short for the XML text. Lend what noemathu_xml_room says. */
+#define NOEMATHU_REFUSED_TEXT_ROOM 22
+
+/* The element's or attribute's prefix does not mean its URI there, by the
+   declarations in scope, or it is an attribute with a URI and no prefix.
+   Normalize first. */
+#define NOEMATHU_REFUSED_UNDECLARED 23
+
+/* The row is a declaration outside of what is to be written, and is in scope
+   there: the text alone would not say so, whether anything uses it or not. Write
+   from the element that has no other around it, or declare the prefix again at
+   the one that you write from. */
+#define NOEMATHU_REFUSED_INHERITED 24
 
 /* The bytes do not begin with `NTB`. This is no bundle. */
 #define NOEMATHU_REFUSED_MARK 30
@@ -278,12 +313,17 @@ static inline const char *noemathu_text(uint32_t number)
     case NOEMATHU_REFUSED_DECLARATION: return "a declaration that the namespace rules forbid";
     case NOEMATHU_REFUSED_DOUBLE: return "a second declaration or attribute of one name";
     case NOEMATHU_REFUSED_NO_SUCH_ROW: return "no such row";
-    case NOEMATHU_REFUSED_LEVEL1: return "a DOM Level 1 node cannot be normalized";
+    case NOEMATHU_REFUSED_LEVEL1: return "a DOM Level 1 node, which has no namespace to keep";
     case NOEMATHU_REFUSED_ROW_ROOM: return "too many rows for the result";
     case NOEMATHU_REFUSED_POOL_ROOM: return "too many pool bytes for the result";
     case NOEMATHU_REFUSED_OFFSET: return "a field with an offset and no length";
     case NOEMATHU_REFUSED_MUST_BE_EMPTY: return "a field that must be empty";
     case NOEMATHU_REFUSED_MALFORMED_UTF8: return "a field that is not well-formed UTF-8";
+    case NOEMATHU_REFUSED_NOT_MARKUP: return "a node that is not written as XML text";
+    case NOEMATHU_REFUSED_CHARACTER: return "a value with a character that XML text cannot hold";
+    case NOEMATHU_REFUSED_TEXT_ROOM: return "too few bytes for the XML text";
+    case NOEMATHU_REFUSED_UNDECLARED: return "a name whose prefix does not mean its URI";
+    case NOEMATHU_REFUSED_INHERITED: return "a declaration around the element that its text would lose";
     case NOEMATHU_REFUSED_MARK: return "no bundle: it does not begin with NTB";
     case NOEMATHU_REFUSED_VERSION: return "a bundle of another version";
     case NOEMATHU_REFUSED_LENGTHS: return "a bundle that was cut, lengthened or damaged";
@@ -347,7 +387,7 @@ typedef struct noemathu_sizes {
     size_t bytes;
 } noemathu_sizes;
 
-/* How many bytes of the output are used: the length of the bundle. */
+/* How many bytes of the output are used: the length of the bundle or the text. */
 typedef struct noemathu_used {
     noemathu_refusal refusal;
     size_t bytes;
@@ -357,7 +397,8 @@ typedef struct noemathu_used {
 /* The functions. */
 
 /* Judges a bundle. Refusals: 30 to 32, 1 to 7, 12 to 14. A bundle that is
-   accepted here is accepted by all others too, apart from 8 to 11 and 33. */
+   accepted here is accepted by all others too, apart from 8 to 11, 20 to 24 and
+   33. */
 noemathu_refusal noemathu_check(const uint8_t *bundle, size_t length);
 
 /* The lookups start at an element. From an attribute or a declaration that is its
@@ -416,6 +457,25 @@ noemathu_sizes noemathu_read(const uint8_t *bundle, size_t length,
    1 to 7, 12 to 14, 33. */
 noemathu_used noemathu_write(const uint32_t *table, size_t table_words,
                              const uint8_t *pool, size_t pool_size, uint8_t *out, size_t out_size);
+
+/* Writes an element and all that it holds as XML text: the element at the row, or
+   that of the document at the row. Attributes and declarations stand in row order
+   in the start tag, each after one space and its value in double quotes; elements
+   and texts in row order behind it; there is always an end tag. In all values
+   `&`, `<`, `>` and `"` are written as &amp; &lt; &gt; &quot; and carriage return
+   as &#13; and in the start tag tab and line feed as &#9; and &#10; so that a
+   reader gets the values back, byte for byte. The text is UTF-8, has no XML
+   declaration, and no zero behind it.
+
+   Every name means there what it means here, to a reader who has the text alone:
+   what would not is refused by 23 and 24. A normalized bundle, written from an
+   element without another around it, draws neither. That a name is spelled as XML
+   asks is not judged for characters from 128 on.
+
+   Refusals: 30 to 32, 1 to 8, 12 to 14; 9 for a Level 1 row anywhere in the
+   bundle; 20, 21, 23, 24 in this order, each at its lowest row; 22. */
+noemathu_used noemathu_write_xml(const uint8_t *bundle, size_t length, uint32_t row,
+                                 uint8_t *out, size_t out_size);
 
 
 /* Helpers. Those that look into a bundle ask for one that a function here has
@@ -494,6 +554,43 @@ static inline size_t noemathu_room(const uint8_t *bundle)
     size_t rows = noemathu_row_count(bundle), bytes = noemathu_pool_length(bundle);
     size_t room = NOEMATHU_BUNDLE_BYTES(2 * rows, bytes + 6 * rows);
     return room < NOEMATHU_BUNDLE_MOST ? room : NOEMATHU_BUNDLE_MOST;
+}
+
+/* Bytes that a value takes in XML text, in a start tag or as a text. */
+static inline size_t noemathu_escaped_length(const uint8_t *bytes, size_t length, bool in_tag)
+{
+    size_t room = length, k;
+    for (k = 0; k < length; k++)
+        switch (bytes[k]) {
+        case '"': room += 5; break;
+        case '&': case '\r': room += 4; break;
+        case '<': case '>': room += 3; break;
+        case '\n': room += in_tag ? 4 : 0; break;
+        case '\t': room += in_tag ? 3 : 0; break;
+        default: break;
+        }
+    return room;
+}
+
+/* Bytes that are enough for what noemathu_write_xml makes of it, from any row, and
+   exactly as many where one element holds all rows. */
+static inline size_t noemathu_xml_room(const uint8_t *bundle)
+{
+    size_t rows = noemathu_row_count(bundle), room = 0, i;
+    for (i = 0; i < rows; i++) {
+        noemathu_row row = noemathu_row_of(bundle, i);
+        bool element = row.type == NOEMATHU_ELEMENT, declaration = row.type == NOEMATHU_DECLARATION;
+        bool in_tag = row.type == NOEMATHU_ATTRIBUTE || declaration;
+        size_t prefix = declaration ? 5 : row.prefix.length, local_name = row.local_name.length;
+        size_t name = prefix + (prefix > 0 && local_name > 0) + local_name;
+        if (element)
+            room += 2 * name + 5;
+        else if (in_tag)
+            room += name + 4 + noemathu_escaped_length(noemathu_bytes(bundle, row.value), row.value.length, true);
+        else if (row.type == NOEMATHU_TEXT)
+            room += noemathu_escaped_length(noemathu_bytes(bundle, row.value), row.value.length, false);
+    }
+    return room;
 }
 
 /* Fills in a row of a table for noemathu_write. */

@@ -123,16 +123,19 @@ static const uint8_t result_b[] = {'N', 'T', 'B', 1, 0, 0, 3, 0, W(6),
     W(13), W(0), W(0), W(0), W(3), W(3), W(0), W(0), W(1), W(1), 'a', 'U', 'b', 'N', 'S', '1'};
 static const uint8_t bundle_none[] = {'N', 'T', 'B', 1, 0, 0, 0, 0, W(0)};
 
+/* Each with what its XML text from row 0 is, or the refusal that it draws. */
 static const struct sample {
     const uint8_t *bundle;
     size_t length;
     const uint8_t *result;
     size_t result_length;
-} samples[] = {{bundle_none, sizeof bundle_none, bundle_none, sizeof bundle_none},
-               {bundle_a, sizeof bundle_a, result_a, sizeof result_a},
-               {bundle_b, sizeof bundle_b, result_b, sizeof result_b},
-               {result_a, sizeof result_a, result_a, sizeof result_a},
-               {result_b, sizeof result_b, result_b, sizeof result_b}};
+    const char *text;
+    noemathu_refusal no_text;
+} samples[] = {{bundle_none, sizeof bundle_none, bundle_none, sizeof bundle_none, "", {8, 0, 0}},
+               {bundle_a, sizeof bundle_a, result_a, sizeof result_a, "", {23, 0, 0}},
+               {bundle_b, sizeof bundle_b, result_b, sizeof result_b, "", {23, 1, 0}},
+               {result_a, sizeof result_a, result_a, sizeof result_a, "<a xmlns=\"U\"></a>", {0, 0, 0}},
+               {result_b, sizeof result_b, result_b, sizeof result_b, "<a NS1:b=\"\" xmlns:NS1=\"U\"></a>", {0, 0, 0}}};
 
 enum { SAMPLES = sizeof samples / sizeof *samples };
 
@@ -154,7 +157,7 @@ static bool is_nothing(noemathu_found found, uint32_t number, uint32_t row)
            found.place.length == 0;
 }
 
-/* All eight refuse it so, and leave their outputs zero. */
+/* All nine refuse it so, and leave their outputs zero. */
 static void refused(const uint8_t *bundle, size_t length, uint32_t number, uint32_t row)
 {
     const uint8_t *p = (const uint8_t *)"p";
@@ -168,6 +171,11 @@ static void refused(const uint8_t *bundle, size_t length, uint32_t number, uint3
 
     lend(&out_room, NULL, 201, ENDS);
     noemathu_used used = noemathu_normalize(bundle, length, out_room.lent, out_room.length);
+    EXPECT(is_refusal(used.refusal, number, row) && used.bytes == 0 && holds(&out_room, NULL, 0));
+    take_back(&out_room);
+
+    lend(&out_room, NULL, 101, ENDS);
+    used = noemathu_write_xml(bundle, length, 0, out_room.lent, out_room.length);
     EXPECT(is_refusal(used.refusal, number, row) && used.bytes == 0 && holds(&out_room, NULL, 0));
     take_back(&out_room);
 
@@ -203,6 +211,7 @@ static void nothing_lent(void)
     EXPECT(is_refusal(noemathu_normalize(NULL, 0, NULL, 0).refusal, 30, 0));
     EXPECT(is_refusal(noemathu_read(NULL, 0, NULL, 0, NULL, 0).refusal, 30, 0));
     EXPECT(is_refusal(noemathu_write(NULL, 0, NULL, 0, NULL, 0).refusal, 33, 0));
+    EXPECT(is_refusal(noemathu_write_xml(NULL, 0, 0, NULL, 0).refusal, 30, 0));
     refused(NULL, 0, 30, 0);
 
     /* A table of no rows is a table, and its bundle has 12 bytes. */
@@ -222,6 +231,8 @@ static void nothing_lent(void)
     EXPECT(noemathu_is_default(bundle_b, sizeof bundle_b, 0, NULL, 0).yes);
     EXPECT(is_refusal(noemathu_normalize(bundle_a, sizeof bundle_a, NULL, 0).refusal, 33, 0));
     EXPECT(is_refusal(noemathu_read(bundle_a, sizeof bundle_a, NULL, 0, NULL, 0).refusal, 10, 0));
+    EXPECT(is_refusal(noemathu_write_xml(result_a, sizeof result_a, 0, NULL, 0).refusal, 22, 0));
+    EXPECT(is_refusal(noemathu_write_xml(result_a, sizeof result_a, 1, NULL, 0).refusal, 20, 1));
 }
 
 /* Bytes that end early, and bytes that go on. */
@@ -313,6 +324,24 @@ static void write_at(const struct sample *sample, struct where where, size_t siz
     take_back(&out_room);
 }
 
+static void write_xml_at(const struct sample *sample, struct where where, size_t size)
+{
+    size_t length = strlen(sample->text);
+    lend(&bundle_room, sample->bundle, sample->length, where);
+    lend(&out_room, NULL, size, where);
+    noemathu_used used = noemathu_write_xml(bundle_room.lent, sample->length, 0, size ? out_room.lent : NULL, size);
+    if (sample->no_text.number != 0) {
+        EXPECT(is_refusal(used.refusal, sample->no_text.number, sample->no_text.row) && used.bytes == 0);
+        EXPECT(holds(&out_room, NULL, 0));
+    } else if (size < length) {
+        EXPECT(is_refusal(used.refusal, 22, 0) && used.bytes == 0 && holds(&out_room, NULL, 0));
+    } else {
+        EXPECT(is_refusal(used.refusal, 0, 0) && used.bytes == length && holds(&out_room, sample->text, length));
+    }
+    take_back(&bundle_room);
+    take_back(&out_room);
+}
+
 static void every_output_size(void)
 {
     for (size_t s = 0; s < SAMPLES; s++)
@@ -323,6 +352,8 @@ static void every_output_size(void)
                 normalize_at(sample, where, size);
             for (size_t size = 0; size < sample->length + 45; size++)
                 write_at(sample, where, size);
+            for (size_t size = 0; size < strlen(sample->text) + 45; size++)
+                write_xml_at(sample, where, size);
             for (size_t words = 0; words < 10 * noemathu_row_count(sample->bundle) + 12; words++)
                 for (size_t size = 0; size < noemathu_pool_length(sample->bundle) + 3; size++)
                     read_at(sample, where, words, size);
@@ -433,6 +464,11 @@ static void expect_judged(const uint32_t *table, const uint8_t *pool, size_t byt
     EXPECT(is_field_refusal(used.refusal, number, row, word));
     EXPECT(number ? is_zero(out, sizeof out) : is_refusal(noemathu_check(out, used.bytes), 0, 0));
     EXPECT(is_field_refusal(noemathu_read(bundle_room.lent, length, out_table, 20, out, sizeof out).refusal, number, row, word));
+    /* the first element's URI is not declared; the value of the second row may be no text */
+    used = noemathu_write_xml(bundle_room.lent, length, 0, out, sizeof out);
+    EXPECT(number ? is_field_refusal(used.refusal, number, row, word)
+                  : is_refusal(used.refusal, 23, 0) || is_refusal(used.refusal, 21, 1));
+    EXPECT(used.bytes == 0 && is_zero(out, sizeof out));
     take_back(&bundle_room);
 }
 
@@ -544,20 +580,198 @@ static void utf8(void)
         }
 }
 
+/* The form that the bits of a code point ask for, and its length. */
+static uint32_t put_code_point(uint8_t *bytes, uint32_t c)
+{
+    uint32_t length = c < 0x80 ? 1 : c < 0x800 ? 2 : c < 0x10000 ? 3 : 4;
+    for (uint32_t k = 0; k < length; k++)
+        bytes[k] = (uint8_t)(0x80 | (c >> 6 * (length - 1 - k) & 0x3f));
+    bytes[0] = (uint8_t)(length == 1 ? c : bytes[0] | 0xf0u << (4 - length));
+    return length;
+}
+
 /* Every code point by itself, in the form that its number of bits asks for: a text of it is accepted exactly if it is no
    surrogate. */
 static void every_code_point(void)
 {
     for (uint32_t c = 0; c < 0x110000; c++) {
         uint8_t bytes[4], out[60];
-        uint32_t length = c < 0x80 ? 1 : c < 0x800 ? 2 : c < 0x10000 ? 3 : 4;
-        for (uint32_t k = 0; k < length; k++)
-            bytes[k] = (uint8_t)(0x80 | (c >> 6 * (length - 1 - k) & 0x3f));
-        bytes[0] = (uint8_t)(length == 1 ? c : bytes[0] | 0xf0u << (4 - length));
+        uint32_t length = put_code_point(bytes, c);
         const uint32_t table[10] = {3, NOEMATHU_NONE, 0, 0, 0, 0, 0, 0, 0, length};
         bool surrogate = c >= 0xd800 && c < 0xe000;
         EXPECT(is_field_refusal(noemathu_write(table, 10, bytes, length, out, sizeof out).refusal, surrogate ? 14 : 0, 0,
                                 surrogate ? 8 : 0));
+    }
+}
+
+/* ---- XML text */
+
+/* A table that is made row by row, and its bundle. */
+static uint32_t made_table[100];
+static uint8_t made_pool[1000], made[NOEMATHU_BUNDLE_BYTES(10, 1000)];
+static size_t made_rows, made_held;
+
+static noemathu_place put(const char *text)
+{
+    return noemathu_put_bytes(made_pool, sizeof made_pool, &made_held, text, strlen(text));
+}
+
+/* A row with a name as `prefix:local`, or less of it. */
+static void set_row(size_t at, uint32_t type, uint32_t parent, const char *name, const char *uri, const char *value)
+{
+    const char *colon = strchr(name, ':');
+    noemathu_row row = {type, parent, {0, 0}, {0, 0}, {0, 0}, {0, 0}};
+    row.local_name = put(colon ? colon + 1 : name);
+    row.prefix = noemathu_put_bytes(made_pool, sizeof made_pool, &made_held, name, colon ? (size_t)(colon - name) : 0);
+    row.uri = put(uri);
+    row.value = put(value);
+    noemathu_put_row(made_table, at, row);
+    made_rows = at < made_rows ? made_rows : at + 1;
+}
+
+static size_t made_bundle(void)
+{
+    noemathu_used used = noemathu_write(made_table, 10 * made_rows, made_pool, made_held, made, sizeof made);
+    EXPECT(is_refusal(used.refusal, 0, 0));
+    return used.bytes;
+}
+
+/* The text of the table from a row, with every size of the output around the exact one. */
+static void expect_text(uint32_t row, const char *text)
+{
+    size_t length = made_bundle(), exact = strlen(text);
+    for (size_t size = exact > 3 ? exact - 3 : 0; size < exact + 9; size++) {
+        lend(&out_room, NULL, size, ENDS);
+        noemathu_used used = noemathu_write_xml(made, length, row, out_room.lent, size);
+        EXPECT(is_refusal(used.refusal, size < exact ? 22 : 0, 0) && used.bytes == (size < exact ? 0 : exact));
+        EXPECT(holds(&out_room, text, used.bytes));
+        take_back(&out_room);
+    }
+    EXPECT(noemathu_xml_room(made) >= exact);
+}
+
+/* The refusal that it draws, with no room, with little and with more than enough. */
+static void expect_no_text(uint32_t start, uint32_t number, uint32_t row)
+{
+    size_t length = made_bundle();
+    for (size_t size = 0; size < 400; size += 19) {
+        lend(&out_room, NULL, size, ENDS);
+        noemathu_used used = noemathu_write_xml(made, length, start, out_room.lent, size);
+        EXPECT(is_refusal(used.refusal, number, row) && used.bytes == 0 && holds(&out_room, NULL, 0));
+        take_back(&out_room);
+    }
+}
+
+/* A table that draws every refusal, of which one after the other is mended. */
+static void refusals_of_text(void)
+{
+    made_rows = made_held = 0;
+    set_row(0, NOEMATHU_ELEMENT, NOEMATHU_NONE, "outer", "", "");
+    set_row(1, NOEMATHU_DECLARATION, 0, "o", "", "O");
+    set_row(2, NOEMATHU_ELEMENT, 0, "a", "", "");
+    set_row(3, NOEMATHU_ATTRIBUTE, 2, "q:x", "Q", "v");
+    set_row(4, NOEMATHU_TEXT, 2, "", "", "\1");
+    set_row(5, NOEMATHU_COMMENT, 2, "", "", "c");
+    set_row(6, NOEMATHU_LEVEL1_ATTRIBUTE, NOEMATHU_NONE, "old", "", "");
+    expect_no_text(7, 8, 0);
+    expect_no_text(NOEMATHU_NONE, 8, 0);
+    expect_no_text(5, 9, 6);
+    set_row(6, NOEMATHU_TEXT, NOEMATHU_NONE, "", "", "\2");
+    for (uint32_t row = 0; row < 7; row++)
+        expect_no_text(row, 20, row == 0 || row == 2 ? 5 : row);
+    set_row(5, NOEMATHU_ELEMENT, 2, "b", "", "");
+    expect_no_text(2, 21, 4);
+    set_row(4, NOEMATHU_TEXT, 2, "", "", "t");
+    expect_no_text(2, 23, 3);
+    set_row(3, NOEMATHU_ATTRIBUTE, 2, "x", "Q", "v");
+    expect_no_text(2, 23, 3);
+    set_row(3, NOEMATHU_ATTRIBUTE, 2, "x", "", "v");
+    expect_no_text(2, 24, 1);
+    expect_no_text(5, 24, 1);
+    expect_text(0, "<outer xmlns:o=\"O\"><a x=\"v\">t<b></b></a></outer>");
+
+    /* `xml` is in scope anyhow, and draws 24 as any other; an empty value does not */
+    set_row(1, NOEMATHU_DECLARATION, 0, "xml", "", NOEMATHU_XML_URI);
+    expect_no_text(2, 24, 1);
+    expect_text(0, "<outer xmlns:xml=\"" NOEMATHU_XML_URI "\"><a x=\"v\">t<b></b></a></outer>");
+    set_row(1, NOEMATHU_DECLARATION, 0, "", "", "");
+    expect_text(0, "<outer xmlns=\"\"><a x=\"v\">t<b></b></a></outer>");
+    expect_text(2, "<a x=\"v\">t<b></b></a>");
+    expect_text(5, "<b></b>");
+
+    /* declared again at the element itself; from further in, that one is lost */
+    set_row(1, NOEMATHU_DECLARATION, 0, "o", "", "O");
+    set_row(6, NOEMATHU_DECLARATION, 2, "o", "", "P");
+    expect_text(2, "<a x=\"v\" xmlns:o=\"P\">t<b></b></a>");
+    expect_no_text(5, 24, 6);
+}
+
+/* From a document its element is written, and what stands beside that does not count. */
+static void text_of_document(void)
+{
+    made_rows = made_held = 0;
+    set_row(0, NOEMATHU_DOCUMENT, NOEMATHU_NONE, "", "", "\1");
+    expect_no_text(0, 20, 0);
+    set_row(1, NOEMATHU_COMMENT, 0, "", "", "\2");
+    expect_no_text(0, 20, 0);
+    set_row(2, NOEMATHU_ELEMENT, 0, "a", "", "");
+    set_row(3, NOEMATHU_INSTRUCTION, 0, "", "", "");
+    expect_text(0, "<a></a>");
+    expect_text(2, "<a></a>");
+    expect_no_text(1, 20, 1);
+    /* what an element owns and holds, in row order, with rows of others between */
+    set_row(4, NOEMATHU_TEXT, 2, "", "", "one");
+    set_row(5, NOEMATHU_ELEMENT, 2, "p:b", "U", "");
+    set_row(6, NOEMATHU_ATTRIBUTE, 2, "c", "", "d");
+    set_row(7, NOEMATHU_DECLARATION, 5, "p", "", "U");
+    set_row(8, NOEMATHU_TEXT, 2, "", "", "two");
+    set_row(9, NOEMATHU_ATTRIBUTE, 5, "xml:id", NOEMATHU_XML_URI, "i");
+    expect_text(0, "<a c=\"d\">one<p:b xmlns:p=\"U\" xml:id=\"i\"></p:b>two</a>");
+    expect_text(5, "<p:b xmlns:p=\"U\" xml:id=\"i\"></p:b>");
+}
+
+/* What a character is written as; NULL for itself. */
+static const char *escape(uint32_t c, bool in_tag)
+{
+    switch (c) {
+    case '&': return "&amp;";
+    case '<': return "&lt;";
+    case '>': return "&gt;";
+    case '"': return "&quot;";
+    case '\r': return "&#13;";
+    case '\t': return in_tag ? "&#9;" : NULL;
+    case '\n': return in_tag ? "&#10;" : NULL;
+    default: return NULL;
+    }
+}
+
+/* Every character as the value of an attribute, a declaration and a text, between two letters. */
+static void every_character(void)
+{
+    for (uint32_t c = 0; c < 0x110000; c++) {
+        uint8_t bytes[4], out[100];
+        char text[100];
+        uint32_t length = put_code_point(bytes, c), value[2] = {3, length + 2};
+        if (c >= 0xd800 && c < 0xe000)
+            continue;
+        if (c == 0 || c == 0x80 || c == 0x800 || c == 0x10000) {
+            const uint32_t table[40] = {1, NOEMATHU_NONE, 0, 0, 0, 1, 0, 0, 0, 0, 2, 0, 0, 0, 1, 1, 0, 0, value[0], value[1],
+                                        13, 0, 0, 0, 2, 1, 0, 0, value[0], value[1], 3, 0, 0, 0, 0, 0, 0, 0, value[0], value[1]};
+            EXPECT(noemathu_write(table, 40, (const uint8_t *)"abpx....x", length + 5, made, sizeof made).refusal.number == 0);
+        }
+        memcpy(made + NOEMATHU_BUNDLE_BYTES(4, 4), bytes, length);
+        made[NOEMATHU_BUNDLE_BYTES(4, 4) + length] = 'x';
+        noemathu_used used = noemathu_write_xml(made, NOEMATHU_BUNDLE_BYTES(4, length + 5), 0, out, sizeof out);
+        if ((c < 32 && c != '\t' && c != '\n' && c != '\r') || c == 0xfffe || c == 0xffff) {
+            EXPECT(is_refusal(used.refusal, 21, 1) && used.bytes == 0 && is_zero(out, sizeof out));
+            continue;
+        }
+        char itself[5] = {0};
+        memcpy(itself, bytes, length);
+        const char *in_tag = escape(c, true) ? escape(c, true) : itself, *in_text = escape(c, false) ? escape(c, false) : itself;
+        int exact = snprintf(text, sizeof text, "<a b=\"x%sx\" xmlns:p=\"x%sx\">x%sx</a>", in_tag, in_tag, in_text);
+        EXPECT(is_refusal(used.refusal, 0, 0) && used.bytes == (size_t)exact && memcmp(out, text, used.bytes) == 0);
+        EXPECT(noemathu_xml_room(made) == used.bytes);
     }
 }
 
@@ -626,6 +840,66 @@ static void largest(void)
     EXPECT(is_refusal(noemathu_write(large_table, 10, large, 32769, large_out, sizeof large_out).refusal, 1, 0));
 }
 
+/* The longest text: a pool of `a` and quotes, which is every value and URI, and as many attributes and declarations as can be
+   of that name. With more letters there could be more of those, but each takes five bytes from each of 1,023 values; a second
+   element takes a whole value. */
+static void longest_text(void)
+{
+    static const char *const tags[] = {" xmlns:a=\"", "\" xmlns=\"", "\" a=\"", "\" a:a=\""};
+    size_t length = make_large(1024, 32768, NOEMATHU_TEXT, false), exact = NOEMATHU_XML_MOST;
+    memset(large + NOEMATHU_BUNDLE_BYTES(1024, 1), '"', 32767);
+    for (size_t i = 0; i < 1024; i++) {
+        if (i == 1 || i == 2)
+            set_word(i, 0, NOEMATHU_DECLARATION);
+        if (i == 3 || i == 4)
+            set_word(i, 0, NOEMATHU_ATTRIBUTE);
+        set_word(i, 3, i == 0 || i == 4);
+        set_word(i, 5, i == 0 || i == 1 || i == 3 || i == 4);
+        set_word(i, 7, i == 0 || i == 4 ? 32768 : 0);
+        set_word(i, 9, i > 0 ? 32768 : 0);
+    }
+    EXPECT(is_refusal(noemathu_check(large, length), 0, 0));
+    EXPECT(noemathu_xml_room(large) == exact);
+
+    size_t pages = (exact + PAGE - 1) / PAGE * PAGE;
+    uint8_t *all = mmap(NULL, pages + 2 * PAGE, PROT_NONE, MAP_PRIVATE | MAP_ANONYMOUS, -1, 0);
+    EXPECT(all != MAP_FAILED && mprotect(all + PAGE, pages, PROT_READ | PROT_WRITE) == 0);
+    uint8_t *out = all + PAGE + pages - exact;
+    noemathu_used used = noemathu_write_xml(large, length, 0, out, exact);
+    EXPECT(is_refusal(used.refusal, 0, 0) && used.bytes == exact);
+    const uint8_t *at = out;
+    bool same = memcmp(at, "<a:a", 4) == 0;
+    at += 4;
+    for (size_t i = 1; i < 1024 && same; i++) {
+        size_t tag = i <= 4 ? strlen(tags[i - 1]) : i == 5 ? 2 : 0;
+        same = memcmp(at, i <= 4 ? tags[i - 1] : "\">", tag) == 0 && at[tag] == 'a';
+        at += tag + 1;
+        for (size_t k = 0; k < 32767 && same; k++, at += 6)
+            same = memcmp(at, "&quot;", 6) == 0;
+    }
+    EXPECT(same && memcmp(at, "</a:a>", 6) == 0 && at + 6 == out + exact);
+    used = noemathu_write_xml(large, length, 0, out + 1, exact - 1);
+    EXPECT(is_refusal(used.refusal, 22, 0) && used.bytes == 0 && out[0] == '<' && is_zero(out + 1, exact - 1));
+    munmap(all, pages + 2 * PAGE);
+}
+
+/* Elements in each other, as deep as can be. */
+static void deepest_text(void)
+{
+    size_t length = make_large(1024, 1, NOEMATHU_ELEMENT, true), exact = 7 * 1024;
+    for (uint32_t row = 0; row < 1024; row += 341) {
+        size_t elements = 1024 - row;
+        lend(&out_room, NULL, exact, ENDS);
+        noemathu_used used = noemathu_write_xml(large, length, row, out_room.lent, exact);
+        EXPECT(is_refusal(used.refusal, 0, 0) && used.bytes == 7 * elements);
+        for (size_t i = 0; i < elements; i++)
+            EXPECT(memcmp(out_room.lent + 3 * i, "<a>", 3) == 0 && memcmp(out_room.lent + 3 * elements + 4 * i, "</a>", 4) == 0);
+        EXPECT(is_zero(out_room.lent + 7 * elements, exact - 7 * elements));
+        take_back(&out_room);
+    }
+    EXPECT(noemathu_xml_room(large) == exact);
+}
+
 /* A result beyond the limits draws 10 or 11 however much room there is, and 33 does not come before. */
 static void result_refused(size_t length, uint32_t number)
 {
@@ -656,7 +930,7 @@ static void beyond_the_limits(void)
 
 static void helpers(void)
 {
-    const uint32_t numbers[] = {0, 1, 2, 3, 4, 5, 6, 7, 8, 9, 10, 11, 12, 13, 14, 30, 31, 32, 33, 15};
+    const uint32_t numbers[] = {0, 1, 2, 3, 4, 5, 6, 7, 8, 9, 10, 11, 12, 13, 14, 20, 21, 22, 23, 24, 30, 31, 32, 33, 15};
     for (size_t i = 0; i < sizeof numbers / sizeof *numbers; i++)
         for (size_t k = 0; k < i; k++)
             EXPECT(strcmp(noemathu_text(numbers[i]), noemathu_text(numbers[k])) != 0);
@@ -664,7 +938,11 @@ static void helpers(void)
         EXPECT(NOEMATHU_BUNDLE_BYTES(noemathu_row_count(samples[s].bundle), noemathu_pool_length(samples[s].bundle)) ==
                samples[s].length);
         EXPECT(noemathu_room(samples[s].bundle) >= samples[s].result_length);
+        EXPECT(samples[s].no_text.number || noemathu_xml_room(samples[s].bundle) == strlen(samples[s].text));
     }
+    EXPECT(noemathu_escaped_length((const uint8_t *)"&<>\"\r\t\n'a", 9, false) == 5 + 4 + 4 + 6 + 5 + 1 + 1 + 1 + 1);
+    EXPECT(noemathu_escaped_length((const uint8_t *)"&<>\"\r\t\n'a", 9, true) == 5 + 4 + 4 + 6 + 5 + 4 + 5 + 1 + 1);
+    EXPECT(noemathu_escaped_length(NULL, 0, true) == 0);
     EXPECT(strlen(NOEMATHU_XML_URI) == 36 && strlen(NOEMATHU_XMLNS_URI) == 29);
 
     uint8_t pool[8];
@@ -700,6 +978,8 @@ static void run_write(void)
     noemathu_write(large_table, 10240, noemathu_pool(large), noemathu_pool_length(large), large_out, sizeof large_out);
 }
 
+static void run_write_xml(void) { noemathu_write_xml(large, large_length, 0, large_out, sizeof large_out); }
+
 static void *run(void *call)
 {
     (*(void (**)(void))call)();
@@ -730,7 +1010,7 @@ static size_t stack_of(void (*call)(void))
 static void stack_as_told(void)
 {
     void (*const calls[])(void) = {run_check, run_uri, run_prefix, run_default, run_in_scope_uri, run_in_scope_prefix,
-                                   run_normalize, run_read, run_write};
+                                   run_normalize, run_read, run_write, run_write_xml};
     const uint32_t types[] = {NOEMATHU_ELEMENT, NOEMATHU_ENTITY_REFERENCE};
     for (size_t t = 0; t < 2; t++) {
         large_length = make_large(1024, 32768, types[t], true);
@@ -748,6 +1028,9 @@ static void *many_calls(void *given)
     for (int i = 0; i < 2000; i++) {
         noemathu_used used = noemathu_normalize(sample->bundle, sample->length, out, sizeof out);
         if (used.bytes != sample->result_length || memcmp(out, sample->result, used.bytes) != 0)
+            return given;
+        used = noemathu_write_xml(sample->result, sample->result_length, 0, out, sizeof out);
+        if (used.bytes != strlen(sample[2].text) || memcmp(out, sample[2].text, used.bytes) != 0)
             return given;
     }
     return NULL;
@@ -776,7 +1059,12 @@ int main(void)
     fields();
     utf8();
     every_code_point();
+    refusals_of_text();
+    text_of_document();
+    every_character();
     largest();
+    longest_text();
+    deepest_text();
     beyond_the_limits();
     helpers();
     stack_as_told();

@@ -12,6 +12,7 @@ A bundle, a pool and a query are strings of bytes, a table is a sequence of word
     normalize(bundle, out_size) -> (number, row, word, bytes, out)
     read(bundle, out_words, out_bytes) -> (number, row, word, rows, bytes, out_table, out_pool)
     write(table, pool, out_size) -> (number, row, word, bytes, out)
+    write_xml(bundle, row, out_size) -> (number, row, word, bytes, out)
 """
 import struct
 from functools import lru_cache
@@ -195,3 +196,11 @@ def read(bundle, out_words, out_bytes):
         return (*refused.refusal, 0, 0, (0,) * out_words, bytes(out_bytes))
     return (*reading.NOT_REFUSED, len(table) // reading.WIDTH, len(pool), table + (0,) * (out_words - len(table)),
             pool + bytes(out_bytes - len(pool)))
+
+
+def write_xml(bundle, row, out_size):
+    """30 to 32, and then what is answered of the table and pool."""
+    try:
+        return reading.write_xml(*split(bundle), row, out_size)
+    except Refused as refused:
+        return (*refused.refusal, 0, bytes(out_size))

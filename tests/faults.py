@@ -1,5 +1,7 @@
 """Wrong readings of the rules, each by one function of the reading that is replaced. A comparison that is worth its time
 finds every one of them."""
+import re
+
 import bundles
 import reading
 
@@ -268,10 +270,204 @@ def rest_kept():
     bundles.written = written
 
 
+def escapes_without(*bytes):
+    """The escapes of values, but not of these bytes."""
+    for name in ("TEXT_ESCAPES", "QUOTED_ESCAPES"):
+        setattr(reading, name, tuple(one for one in getattr(reading, name) if one[0] not in bytes))
+
+
+def quote_not_escaped():
+    """A quote stands in a value as it is."""
+    escapes_without(b'"')
+
+
+def ampersand_escaped_last():
+    """What stands for another byte is escaped again."""
+    for name in ("TEXT_ESCAPES", "QUOTED_ESCAPES"):
+        setattr(reading, name, tuple(reversed(getattr(reading, name))))
+
+
+def tab_kept_in_attribute():
+    """A tab stands in an attribute as it is."""
+    escapes_without(b"\t")
+
+
+def line_feed_kept_in_attribute():
+    """A line feed stands in an attribute as it is."""
+    escapes_without(b"\n")
+
+
+def return_kept():
+    """A carriage return stands in a value as it is."""
+    escapes_without(b"\r")
+
+
+def tab_escaped_in_text():
+    """A text has the escapes of attributes."""
+    reading.TEXT_ESCAPES = reading.QUOTED_ESCAPES
+
+
+def attributes_before_declarations():
+    """In a start tag the attributes come first."""
+    right = reading.in_tag
+    reading.in_tag = lambda tree, element: sorted(right(tree, element), key=lambda row: row.type)
+
+
+def texts_before_elements():
+    """Among the children of an element the texts come first."""
+    right = reading.content
+    reading.content = lambda tree, element: sorted(right(tree, element), key=lambda row: -row.type)
+
+
+def no_end_tag():
+    """An element that holds nothing has no end tag."""
+    right = reading.element_markup
+    reading.element_markup = lambda tree, element: re.sub(rb"<([^ >]*)([^>]*)></\1>", rb"<\1\2/>", right(tree, element))
+
+
+def empty_default_left_out():
+    """An empty default declaration is not written."""
+    right = reading.in_tag
+    reading.in_tag = lambda tree, element: [
+        row for row in right(tree, element) if row.type != reading.DECLARATION or row.value.text != b""]
+
+
+def text_room_off_by_one():
+    """A text that fills the output draws 22."""
+    reading.has_room = lambda text, out_size: len(text) < out_size
+
+
+def text_room_first():
+    """22 is tried before 21, 23 and 24."""
+    right = reading.write_xml
+
+    def write_xml(table, pool, row, out_size):
+        answer = right(table, pool, row, out_size)
+        return (22, 0, *answer[2:]) if answer[0] in (21, 23, 24) and out_size == 0 else answer
+    reading.write_xml = write_xml
+
+
+def tried_in_order(*numbers):
+    """The refusals of an XML text are tried in this order."""
+    right = reading.xml_tries
+    reading.xml_tries = lambda tree, start: sorted(right(tree, start), key=lambda one: numbers.index(one[0]))
+
+
+def undeclared_before_character():
+    """23 is tried before 21."""
+    tried_in_order(20, 23, 21, 24)
+
+
+def character_before_markup():
+    """21 is tried before 20."""
+    tried_in_order(21, 20, 23, 24)
+
+
+def inherited_before_undeclared():
+    """24 is tried before 23."""
+    tried_in_order(20, 21, 24, 23)
+
+
+def row_by_row():
+    """The lowest row is named that draws 20, 21 or 23."""
+    right = reading.xml_tries
+
+    def xml_tries(tree, start):
+        tried = list(right(tree, start))
+        lowest = min((row for number, rows in tried if number != 24 for row in rows), default=None)
+        yield from ((number, [row for row in rows if row == lowest or number == 24]) for number, rows in tried)
+    reading.xml_tries = xml_tries
+
+
+def inherited_at_the_start():
+    """The start's own declarations draw 24."""
+    right = reading.inherited
+    reading.inherited = lambda tree, element: [*right(tree, element), *(
+        row for row in tree.declarations(element) if row.value.text != b"")]
+
+
+def inherited_where_used():
+    """Only a declaration that some name in the subtree uses draws 24."""
+    right = reading.inherited
+    reading.inherited = lambda tree, element: [row for row in right(tree, element) if any(
+        other.prefix.text == row.local_name.text and other.uri.text == row.value.text
+        for other in reading.subtree(tree, element))]
+
+
+def empty_is_inherited():
+    """A declaration with an empty value draws 24."""
+    right = reading.inherited
+
+    def inherited(tree, element):
+        declared = {row.local_name.text for row in tree.declarations(element)}
+        yield from right(tree, element)
+        for outer in reading.outward(tree, reading.ancestor_element(tree, element)):
+            yield from (row for row in tree.declarations(outer) if row.value.text == b"" and b"" not in declared)
+    reading.inherited = inherited
+
+
+def xml_not_inherited():
+    """A declaration of `xml` does not draw 24."""
+    right = reading.inherited
+    reading.inherited = lambda tree, element: [row for row in right(tree, element) if row.local_name.text != b"xml"]
+
+
+def between_not_looked_at():
+    """A declaration draws 24 also where an element between declares its prefix."""
+    def inherited(tree, element):
+        declared = {row.local_name.text for row in tree.declarations(element)}
+        for outer in reading.outward(tree, reading.ancestor_element(tree, element)):
+            yield from (row for row in tree.declarations(outer)
+                        if row.value.text != b"" and row.local_name.text not in declared)
+    reading.inherited = inherited
+
+
+def beside_counts():
+    """What stands beside a document's element counts for 20."""
+    right = reading.xml_tries
+
+    def xml_tries(tree, start):
+        yield 20, [row.number for row in tree.under.get(start.number, ()) if start.type == reading.DOCUMENT
+                   and row.type != reading.ELEMENT]
+        yield from right(tree, start)
+    reading.xml_tries = xml_tries
+
+
+def owner_written():
+    """From an attribute, a text or a declaration its element is written."""
+    right = reading.element_to_write
+    reading.element_to_write = lambda tree, start: right(tree, start) or (
+        reading.start_element(tree, start) if start.type in (2, 3, 13) else None)
+
+
+def attribute_without_prefix():
+    """An attribute with a URI and no prefix does not draw 23."""
+    right = reading.means_its_uri
+    reading.means_its_uri = lambda tree, row: right(tree, row) or row.type == reading.ATTRIBUTE and not row.prefix.text
+
+
+def noncharacters_allowed():
+    """U+FFFE and U+FFFF do not draw 21."""
+    right = reading.forbidden
+    reading.forbidden = lambda value: right(value.replace(b"\xef\xbf\xbe", b"").replace(b"\xef\xbf\xbf", b""))
+
+
+def declared_values_not_tried():
+    """The value of a declaration does not draw 21."""
+    right = reading.xml_tries
+    reading.xml_tries = lambda tree, start: ((number, [row for row in rows if number != 21 or tree.rows[row].type != 13])
+                                             for number, rows in right(tree, start))
+
+
 FAULTS = {fault.__name__: fault for fault in (
     shadowed_prefix, shadowed_own_prefix, element_by_uri_lookup, default_serves_attribute, bound_prefix_declared,
     level1_name_counts, names_by_offset, fields_before_structure, offset_before_pool, empty_in_first_pass,
     pool_before_offsets, fields_after_names, encoding_after_names, encoding_with_empty, surrogates_accepted,
     values_not_decoded, length_word, last_field, bytes_before_rows, shared_bytes, big_endian, zero_byte_not_seen,
     bytes_after, version_before_mark, cut_is_lengths, limits_by_lengths, room_before_limits, read_bytes_before_rows,
-    rest_kept)}
+    rest_kept, quote_not_escaped, ampersand_escaped_last, tab_kept_in_attribute, line_feed_kept_in_attribute, return_kept,
+    tab_escaped_in_text, attributes_before_declarations, texts_before_elements, no_end_tag, empty_default_left_out,
+    text_room_off_by_one, text_room_first, undeclared_before_character, character_before_markup,
+    inherited_before_undeclared, row_by_row, inherited_at_the_start, inherited_where_used, empty_is_inherited,
+    xml_not_inherited, between_not_looked_at, beside_counts, owner_written, attribute_without_prefix,
+    noncharacters_allowed, declared_values_not_tried)}

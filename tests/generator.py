@@ -3,7 +3,8 @@
     case(seed, number) -> Case
 
 The kinds, from common to rare: grafted trees, whose names and declarations come from several makers; typical trees, of
-one maker; damaged ones; wild ones, whose names keep no rule; random words; tables at the limits.
+one maker; damaged ones; plain ones, of elements, attributes, declarations and texts alone; wild ones, whose names keep no
+rule; random words; tables at the limits.
 """
 from random import Random
 from typing import NamedTuple
@@ -16,8 +17,13 @@ XMLNS_URI = b"http://www.w3.org/2000/xmlns/"
 
 # Mostly of different lengths, since an answer may be no more than a length. Some are parts of others.
 PREFIXES = (b"p", b"qq", b"rstu", b"NS1", b"NS2", b"NS10x", b"\xc3\xa9t\xc3\xa9ou")
-URIS = (b"U", b"u:", b"urn", b"urn:", b"urn:w", b"http://e/", b"http://e/x", b"\x00\xc3\xbf 7 bytes")
-NAMES = (b"a", b"id", b"lang", b"xml", b"xmlns", b"_b.-1", b"\xe2\x82\xac\xf0\x90\x80\x80")
+URIS = (b"U", b"u:", b"urn", b"urn:", b"urn:w", b"http://e/", b"http://e/x", b"\x00\xc3\xbf 7 bytes", b'u?"a"\t&<b>\r\n')
+# The last begins with a character that XML does not allow there.
+NAMES = (b"a", b"id", b"lang", b"xml", b"xmlns", b"_b.-1") * 5 + (b"\xe2\x82\xac\xf0\x90\x80\x80", b"\xc2\xb7b")
+# Most may stand in XML text, some only as references.
+VALUES = (b"", b"value") * 4 + (
+    b'a&b<c>d"e', b"&amp;&lt;&#9;", b"\t \n \r \r\n", b"]]>", b"'\x7f\xc2\x85\xe2\x80\xa8", b"\xf0\x9f\x98\x80 & more",
+    b"\xef\xbf\xbd\xee\x80\x80", b"\xf0\x9f\xbf\xbe", b"\xef\xbf\xbe", b"x\xef\xbf\xbf", b"\x00", b"\x0b\x1f")
 WHOLE_NAMES = (b"p:a", b":", b"a", b"xmlns", b"xmlns:p", b"id")
 
 
@@ -130,12 +136,12 @@ class NoRule:
     attribute = declaration = element
 
 
-def grow(maker, names, size, level1=False, doubles=False):
+def grow(maker, names, size, level1=False, doubles=False, plain=False):
     """Lets the table grow to some size, at random places. Where nothing of its kind may stand, nothing is added."""
     random = maker.random
     elements, holders, documents, types = [], [], [], []
     for _ in range(random.choice((1, 1, 1, 2))):
-        kind = random.choice((1, 9, 9, 11, 5))
+        kind = random.choice((1, 9) if plain else (1, 9, 9, 11, 5))
         if kind == 9:
             documents.append(maker.add(9, NONE))
         elif kind != 1:
@@ -161,7 +167,7 @@ def grow(maker, names, size, level1=False, doubles=False):
                 maker.add(13, owner, local_name=prefix, value=uri)
         elif chance < 0.85:
             owner = NONE if random.random() < 0.05 else owner
-            value = random.choice((b"", b"value"))
+            value = random.choice(VALUES)
             if level1 and random.random() < 0.3:
                 name = random.choice(WHOLE_NAMES)
                 if owner == NONE or maker.free(258, owner, name) or doubles:
@@ -173,11 +179,13 @@ def grow(maker, names, size, level1=False, doubles=False):
                     name = b"a"
                 if owner == NONE or maker.free(2, owner, uri, name) or doubles:
                     maker.add(2, owner, prefix, name, uri, value)
+        elif plain:
+            maker.add(3, random.choice(elements), value=random.choice(VALUES))
         elif chance < 0.97:
             kind = random.choice((3, 4, 5, 5, 5, 7, 8))
             parents = elements[-1:] + holders + (documents if kind in (7, 8) else [])
             parent = random.choice(parents + [NONE] if random.random() < 0.1 else parents)
-            row = maker.add(kind, parent, value=random.choice((b"", b"value")))
+            row = maker.add(kind, parent, value=random.choice(VALUES))
             if kind == 5:
                 holders.append(row)
         else:
@@ -208,6 +216,13 @@ def typical(random):
 def grafted(random):
     maker = Maker(random)
     grow(maker, ManyMakers(random), small(random), level1=random.random() < 0.15, doubles=random.random() < 0.05)
+    return maker.table(), bytes(maker.pool)
+
+
+def plain(random):
+    maker = Maker(random)
+    names = random.choice((OneMaker, ManyMakers))(random)
+    grow(maker, names, small(random), plain=True)
     return maker.table(), bytes(maker.pool)
 
 
@@ -365,7 +380,7 @@ def limits(random):
     return table, bytes(maker.pool)
 
 
-KINDS = ((grafted, 40), (typical, 20), (damaged, 20), (wild, 10), (random_words, 9), (limits, 1))
+KINDS = ((grafted, 35), (typical, 15), (damaged, 20), (plain, 12), (wild, 8), (random_words, 9), (limits, 1))
 
 
 def held(random, table, pool, words):

@@ -4,6 +4,7 @@ the C interface.
     library = Library(path)
     library.lend(bundle, table, pool, shift)    what the following calls read, at an address that is shifted by some bytes
     library.ask(operation, *rest)               the whole answer, and every output buffer whole
+    library.xml_room()                          what noemathu_xml_room of the header says of the bundle
     library.taken_back()                        after the calls: whether what was lent is unchanged
 
 Outputs are filled with a pattern before a call, and the margins around them must still hold it afterwards.
@@ -57,7 +58,11 @@ FUNCTIONS = {
     "normalize": (BUFFER * 2, Used),
     "read": (BUFFER * 3, Sizes),
     "write": (BUFFER * 3, Used),
+    "write_xml": (BUFFER + [WORD] + BUFFER, Used),
 }
+
+# The header's own function, made callable.
+HELPERS = "#include <noemathu.h>\nsize_t xml_room(const uint8_t *bundle) { return noemathu_xml_room(bundle); }\n"
 
 MARGIN = 64
 MOST = 1 << 18
@@ -101,9 +106,11 @@ class Library:
     def __init__(self, archive, made="target/tests"):
         Path(made).mkdir(parents=True, exist_ok=True)
         shared = str(Path(made, "library.so").resolve())
-        subprocess.run(["cc", "-shared", "-o", shared, "-Wl,--whole-archive", str(archive), "-Wl,--no-whole-archive"],
-                       check=True)
+        subprocess.run(["cc", "-O2", "-fPIC", "-Iinclude", "-shared", "-o", shared, "-x", "c", "-", "-x", "none",
+                        "-Wl,--whole-archive", str(archive), "-Wl,--no-whole-archive"], input=HELPERS, text=True, check=True)
         loaded = ctypes.CDLL(shared)
+        self.room_for_text = loaded.xml_room
+        self.room_for_text.argtypes, self.room_for_text.restype = [BYTES], SIZE
         self.functions = {}
         for operation, (parameters, result) in FUNCTIONS.items():
             function = getattr(loaded, "noemathu_" + operation)
@@ -146,6 +153,13 @@ class Library:
         answer = self.functions[operation](*self.lent["table"], *self.lent["pool"],
                                            *self.rooms["out"].lend(size, self.shift))
         return (*answer.refusal.given(), answer.bytes, self.rooms["out"].taken_back("the output"))
+
+    def write_xml(self, operation, row, size):
+        answer = self.functions[operation](*self.lent["bundle"], row, *self.rooms["out"].lend(size, self.shift))
+        return (*answer.refusal.given(), answer.bytes, self.rooms["out"].taken_back("the output"))
+
+    def xml_room(self):
+        return self.room_for_text(self.lent["bundle"][0])
 
     def read(self, operation, count, size):
         table = self.rooms["out_table"].lend(4 * count, 4 * self.shift)[0], count

@@ -1,4 +1,4 @@
-"""A second reading of the rules: the check of a node table, the lookups and normalization, as docs/RULES.md says
+"""A second reading of the rules: the check of a node table, the lookups, normalization and XML text, as docs/RULES.md says
 them, in its order and words, written without a look at the library. tests/compare holds the library to it.
 
 A table is a sequence of words, a pool a string of bytes, a row a number, a query a string of bytes.
@@ -10,6 +10,7 @@ A table is a sequence of words, a pool a string of bytes, a row a number, a quer
     in_scope_uri(table, pool, row, query) -> (number, row, word, kind, offset, length)
     in_scope_prefix(table, pool, row, query) -> (number, row, word, kind, offset, length)
     normalize(table, pool, out_words, out_bytes) -> (number, row, word, rows, bytes, out_table, out_pool)
+    write_xml(table, pool, row, out_size) -> (number, row, word, bytes, out)
 
 Number 0 is no refusal. A kind is "none", "place", "xml" or "xmlns", of which the last two are built in.
 """
@@ -571,3 +572,145 @@ def in_pool(tree, text):
     field = Field(len(tree.pool), len(text), text)
     tree.pool += text
     return field
+
+
+# XML text.
+
+def write_xml(table, pool, row, out_size):
+    """From an element row, or a document's element, the markup of its subtree into a lent buffer. Success answers how much
+    of it is used; what is left over, and after a refusal all, is zero."""
+    refusal, text = xml_text(tuple(table), bytes(pool), row)
+    if refusal.number == 0 and not has_room(text, out_size):
+        refusal = Refusal(22)
+    if refusal.number != 0:
+        return (*refusal, 0, bytes(out_size))
+    return (*refusal, len(text), text + bytes(out_size - len(text)))
+
+
+def has_room(text, out_size):
+    """22: too little room."""
+    return len(text) <= out_size
+
+
+@lru_cache(maxsize=1)
+def xml_text(table, pool, row):
+    """The refusal; or no refusal, and the text, whatever room there is for it. 01's check, 8, 9, 20, 21, 23, 24, in that
+    order, each at its lowest row."""
+    refusal, tree = checked(table, pool)
+    if tree is None:
+        return refusal, None
+    if row >= len(tree.rows):
+        return Refusal(8), None
+    refusal = first_level1(tree)
+    if refusal.number != 0:
+        return refusal, None
+    for number, rows in xml_tries(tree, tree.rows[row]):
+        if rows:
+            return Refusal(number, min(rows)), None
+    return NOT_REFUSED, element_markup(tree, element_to_write(tree, tree.rows[row]))
+
+
+def xml_tries(tree, start):
+    """What is tried, in order: the number, and the rows that draw it."""
+    element = element_to_write(tree, start)
+    if element is None:
+        yield 20, [start.number]
+        return
+    rows = subtree(tree, element)
+    yield 20, [row.number for row in rows if row.type not in (ELEMENT, ATTRIBUTE, TEXT, DECLARATION)]
+    yield 21, [row.number for row in rows if forbidden(row.value.text)]
+    yield 23, [row.number for row in rows if row.type in (ELEMENT, ATTRIBUTE) and not means_its_uri(tree, row)]
+    yield 24, [row.number for row in inherited(tree, element)]
+
+
+def element_to_write(tree, start):
+    """An element row itself, or a document's element; 20: the start is neither an element nor a document with one."""
+    if start.type == ELEMENT:
+        return start
+    if start.type == DOCUMENT:
+        return next((child for child in tree.under.get(start.number, ()) if child.type == ELEMENT), None)
+    return None
+
+
+def subtree(tree, element):
+    """The element, what it owns and holds, and what that does."""
+    rows = [element]
+    for row in rows:
+        rows += tree.under.get(row.number, ())
+    return rows
+
+
+def forbidden(value):
+    """21: a value holds a byte below 32 other than tab, line feed and carriage return, or U+FFFE or U+FFFF."""
+    return any(character < " " and character not in "\t\n\r" or character in "\ufffe\uffff"
+               for character in value.decode("utf-8"))
+
+
+def means_its_uri(tree, row):
+    """An element means its URI if the in-scope URI of its prefix (or default) is it, none for none. An attribute does if it
+    has neither URI nor prefix, or if it has both and the in-scope URI of its prefix at its owner is its URI."""
+    prefix, uri = row.prefix.text, row.uri.text
+    if row.type == ATTRIBUTE:
+        return prefix == uri == b"" or prefix != b"" and in_scope_as(tree, tree.parent_of(row), prefix, uri)
+    return in_scope_as(tree, row, prefix, uri)
+
+
+def inherited(tree, element):
+    """24: an ancestor's declaration with non-empty value whose prefix neither the start nor any element between declares;
+    whether it is used or not."""
+    declared = set()
+    for outer in outward(tree, element):
+        declarations = tree.declarations(outer)
+        if outer is not element:
+            yield from (row for row in declarations if row.value.text != b"" and row.local_name.text not in declared)
+        declared |= {row.local_name.text for row in declarations}
+
+
+def element_markup(tree, element):
+    """Attributes and declarations in row order in the start tag, each after one space, children in row order, always an end
+    tag, double quotes."""
+    parts, open_rows = [], [(element, False)]
+    while open_rows:
+        row, ended = open_rows.pop()
+        if row.type == TEXT:
+            parts.append(escaped(row.value.text, TEXT_ESCAPES))
+        elif ended:
+            parts.append(b"</%s>" % written_name(row))
+        else:
+            parts.append(b"<%s%s>" % (written_name(row), b"".join(map(owned_markup, in_tag(tree, row)))))
+            open_rows.append((row, True))
+            open_rows += [(child, False) for child in reversed(content(tree, row))]
+    return b"".join(parts)
+
+
+def in_tag(tree, element):
+    """The rows of its start tag."""
+    return [row for row in tree.under.get(element.number, ()) if row.type in (ATTRIBUTE, DECLARATION)]
+
+
+def content(tree, element):
+    """What stands between its tags."""
+    return [row for row in tree.under.get(element.number, ()) if row.type in (ELEMENT, TEXT)]
+
+
+def owned_markup(row):
+    """An attribute or a declaration, after one space."""
+    return b' %s="%s"' % (written_name(row), escaped(row.value.text, QUOTED_ESCAPES))
+
+
+def written_name(row):
+    """The prefix, if there is one, a colon and the local name; a declaration is `xmlns`, or `xmlns:` and its prefix."""
+    names = (b"xmlns" if row.type == DECLARATION else row.prefix.text), row.local_name.text
+    return b":".join(name for name in names if name)
+
+
+# All values, and attribute and declared values.
+TEXT_ESCAPES = ((b"&", b"&amp;"), (b"<", b"&lt;"), (b">", b"&gt;"), (b'"', b"&quot;"), (b"\r", b"&#13;"))
+QUOTED_ESCAPES = (*TEXT_ESCAPES, (b"\t", b"&#9;"), (b"\n", b"&#10;"))
+
+
+def escaped(value, escapes):
+    """One after the other, so `&` first: what stands for another byte is not escaped again."""
+    for byte, escape in escapes:
+        value = value.replace(byte, escape)
+    return value
