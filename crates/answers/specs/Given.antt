@@ -4,7 +4,7 @@ use Rattle.rules.specs.declared.Refusal.{Refusal}
 use Rattle.rules.specs.declared.Checked.{Checked}
 use Rattle.rules.specs.declared.Located.{Located}
 use Rattle.rules.specs.declared.Tested.{Tested}
-use Rattle.rules.specs.declared.InScope.{InScope}
+use Rattle.rules.specs.declared.Bound.{Bound}
 use Rattle.rules.specs.declared.Normalized.{Normalized}
 use Rattle.rules.specs.declared.Read.{Read}
 use Rattle.rules.specs.declared.Written.{Written}
@@ -29,8 +29,8 @@ locatedGiven a = record { number = numberGiven (rules.locatedNumber a); found = 
 abbrev pub testedGiven : Tested → Test
 testedGiven a = record { number = numberGiven (rules.testedNumber a); yes = rules.testedYes a }
 
-abbrev pub inScopeGiven : InScope → Found
-inScopeGiven a = record { number = numberGiven (rules.inScopeNumber a); found = rules.inScopeFound a; place = rules.inScopePlace a }
+abbrev pub boundGiven : Bound → Found
+boundGiven a = record { number = numberGiven (rules.boundNumber a); found = rules.boundFound a; place = rules.boundPlace a }
 
 abbrev pub normalizedGiven : Normalized → Sizes
 normalizedGiven a = record { number = numberGiven (rules.normalizedNumber a); rows = rules.normalizedRows a; bytes = rules.normalizedBytes a }

@@ -1,8 +1,8 @@
 // RULES 2: the numbers and values of each answer, as structs that C reads too.
 ghost use mathlib.Core.Path.{_≡_};
-ghost use Rattle.answers.specs.Given.{refusalGiven, checkGiven, locatedGiven, testedGiven, inScopeGiven, normalizedGiven, readGiven, writtenGiven};
+ghost use Rattle.answers.specs.Given.{refusalGiven, checkGiven, locatedGiven, testedGiven, boundGiven, normalizedGiven, readGiven, writtenGiven};
+use rules::Bound;
 use rules::Checked;
-use rules::InScope;
 use rules::Located;
 use rules::Normalized;
 use rules::Offset;
@@ -101,15 +101,15 @@ pub fn tested(answer: Tested) -> Test
     }
 }
 
-pub fn in_scope(answer: InScope) -> Found
-    ensures { λ r. ⌜ r ≡ inScopeGiven answer ⌝ }
+pub fn bound(answer: Bound) -> Found
+    ensures { λ r. ⌜ r ≡ boundGiven answer ⌝ }
 {
     match answer {
-        InScope::At(place) => Found::new(NOT_REFUSED, PLACE, place),
-        InScope::Xml => Found::new(NOT_REFUSED, BUILT_IN_XML, NO_PLACE),
-        InScope::Xmlns => Found::new(NOT_REFUSED, BUILT_IN_XMLNS, NO_PLACE),
-        InScope::Nothing => Found::new(NOT_REFUSED, NOTHING, NO_PLACE),
-        InScope::Refused(refusal) => Found::new(number_of(refusal), NOTHING, NO_PLACE),
+        Bound::At(place) => Found::new(NOT_REFUSED, PLACE, place),
+        Bound::Xml => Found::new(NOT_REFUSED, BUILT_IN_XML, NO_PLACE),
+        Bound::Xmlns => Found::new(NOT_REFUSED, BUILT_IN_XMLNS, NO_PLACE),
+        Bound::Nothing => Found::new(NOT_REFUSED, NOTHING, NO_PLACE),
+        Bound::Refused(refusal) => Found::new(number_of(refusal), NOTHING, NO_PLACE),
     }
 }
 

@@ -11,7 +11,7 @@ use Rattle.rules.specs.Lists.{firstThat, filtered, anyOf, isEmpty, sameBytes}
 use Rattle.rules.specs.Table.{xmlPrefix, xmlnsPrefix, xmlUri, Node}
 use Rattle.rules.specs.Lookups.{declares, inScopeUri, uriBytes, serves}
 use Rattle.rules.proofs.Lists.{by-cases, true-not-false, both-true, true-both, sameBytes-equal, sameBytes-empty, unequal-sameBytes}
-use Rattle.rules.proofs.Declarations.{legal, not-xml}
+use Rattle.rules.proofs.Declarations.{legal}
 use Rattle.rules.proofs.Repairs.{found-means}
 use Rattle.numbers.specs.Numbers.{Names, Spelling}
 use Rattle.numbers.proofs.Laws.{same-number}
@@ -190,7 +190,7 @@ module _ {spelling : ℕ → List ℕ} {names : ℕ} (s : Spelling spelling name
         (λ q. rw (v, q) refl)
         (λ q.
         let l = legal (row d) (g .kind) (g .legal) in
-        let m = means (g .prefix) (not-xml (row d) l (ap (λ (b : List ℕ). sameBytes b xmlUri) (sameBytes-equal (row d .value .bytes) uri (same ∙ v)) ∙ other)) (l .notXmlns) in
+        let m = means (g .prefix) (l .xmlAlone ∙ ap (λ (b : List ℕ). sameBytes b xmlUri) (sameBytes-equal (row d .value .bytes) uri (same ∙ v)) ∙ other) (l .notXmlns) in
         rw (v, q, same-names s m is, ne-eqb (nearest pre scope (pre d)) 0 some?) refl))
         (λ v. rw v (by-cases (eqb (pre d) 0) (λ q. rw q refl) (λ q. rw q refl))))
 

@@ -14,7 +14,7 @@ use Rattle.rules.specs.declared.Refusal.{Refusal}
 use Rattle.rules.specs.declared.Checked.{Checked}
 use Rattle.rules.specs.declared.Located.{Located}
 use Rattle.rules.specs.declared.Tested.{Tested}
-use Rattle.rules.specs.declared.InScope.{InScope}
+use Rattle.rules.specs.declared.Bound.{Bound}
 use Rattle.bundles.specs.Bundles.{HEADER, ROW-BYTES, bundleRefusal, bundleTable, bundlePool}
 use Rattle.bundles.specs.Operations.{readRefused, tableReadRefusal, tableRead, writeRefused, bundleWritten, overBundle, bundleRead, bundleChecked, bundleUriOfPrefix, bundlePrefixOfUri, bundleIsDefault, bundleInScopeUri, bundleInScopePrefix, normalizedInto, bundleNormalized}
 use Rattle.bundles.specs.Opening.{openingRefusal, Opens}
@@ -29,7 +29,7 @@ module _ (table pool : List ℕ) (x : Refusal) (e : checkRefusal table pool ≡ 
   unfolding lookupRefusal
   lookup-refused r = rw e refl
 
-  uri-refused : (r : ℕ) (q : List ℕ) → uriOfPrefixAt table pool r q ≡ Located.Refused x
+  uri-refused : (r : ℕ) (q : List ℕ) → uriOfPrefixAt table pool r q ≡ Bound.Refused x
   unfolding uriOfPrefixAt
   uri-refused r q = rw (lookup-refused r) refl
 
@@ -41,11 +41,11 @@ module _ (table pool : List ℕ) (x : Refusal) (e : checkRefusal table pool ≡ 
   unfolding isDefaultAt
   default-refused r q = rw (lookup-refused r) refl
 
-  in-scope-uri-refused : (r : ℕ) (q : List ℕ) → inScopeUriAt table pool r q ≡ InScope.Refused x
+  in-scope-uri-refused : (r : ℕ) (q : List ℕ) → inScopeUriAt table pool r q ≡ Bound.Refused x
   unfolding inScopeUriAt
   in-scope-uri-refused r q = rw (lookup-refused r) refl
 
-  in-scope-prefix-refused : (r : ℕ) (q : List ℕ) → inScopePrefixAt table pool r q ≡ InScope.Refused x
+  in-scope-prefix-refused : (r : ℕ) (q : List ℕ) → inScopePrefixAt table pool r q ≡ Bound.Refused x
   unfolding inScopePrefixAt
   in-scope-prefix-refused r q = rw (lookup-refused r) refl
 
@@ -86,9 +86,9 @@ module _ (bytes : List ℕ) (x : Refusal) (e : openingRefusal bytes ≡ some x) 
   unfolding bundleChecked
   check-not-open = over-refused bytes Checked.Refused checked x e (checked-refused _ _ Refusal.Size)
 
-  pub uri-not-open : (r : ℕ) (q : List ℕ) → bundleUriOfPrefix bytes r q ≡ Located.Refused x
+  pub uri-not-open : (r : ℕ) (q : List ℕ) → bundleUriOfPrefix bytes r q ≡ Bound.Refused x
   unfolding bundleUriOfPrefix
-  uri-not-open r q = over-refused bytes Located.Refused (λ t p. uriOfPrefixAt t p r q) x e (λ s. uri-refused _ _ Refusal.Size s r q)
+  uri-not-open r q = over-refused bytes Bound.Refused (λ t p. uriOfPrefixAt t p r q) x e (λ s. uri-refused _ _ Refusal.Size s r q)
 
   pub prefix-not-open : (r : ℕ) (q : List ℕ) → bundlePrefixOfUri bytes r q ≡ Located.Refused x
   unfolding bundlePrefixOfUri
@@ -98,13 +98,13 @@ module _ (bytes : List ℕ) (x : Refusal) (e : openingRefusal bytes ≡ some x) 
   unfolding bundleIsDefault
   default-not-open r q = over-refused bytes Tested.Refused (λ t p. isDefaultAt t p r q) x e (λ s. default-refused _ _ Refusal.Size s r q)
 
-  pub in-scope-uri-not-open : (r : ℕ) (q : List ℕ) → bundleInScopeUri bytes r q ≡ InScope.Refused x
+  pub in-scope-uri-not-open : (r : ℕ) (q : List ℕ) → bundleInScopeUri bytes r q ≡ Bound.Refused x
   unfolding bundleInScopeUri
-  in-scope-uri-not-open r q = over-refused bytes InScope.Refused (λ t p. inScopeUriAt t p r q) x e (λ s. in-scope-uri-refused _ _ Refusal.Size s r q)
+  in-scope-uri-not-open r q = over-refused bytes Bound.Refused (λ t p. inScopeUriAt t p r q) x e (λ s. in-scope-uri-refused _ _ Refusal.Size s r q)
 
-  pub in-scope-prefix-not-open : (r : ℕ) (q : List ℕ) → bundleInScopePrefix bytes r q ≡ InScope.Refused x
+  pub in-scope-prefix-not-open : (r : ℕ) (q : List ℕ) → bundleInScopePrefix bytes r q ≡ Bound.Refused x
   unfolding bundleInScopePrefix
-  in-scope-prefix-not-open r q = over-refused bytes InScope.Refused (λ t p. inScopePrefixAt t p r q) x e (λ s. in-scope-prefix-refused _ _ Refusal.Size s r q)
+  in-scope-prefix-not-open r q = over-refused bytes Bound.Refused (λ t p. inScopePrefixAt t p r q) x e (λ s. in-scope-prefix-refused _ _ Refusal.Size s r q)
 
   pub read-not-open : (tableSize poolSize : ℕ) → bundleRead bytes tableSize poolSize ≡ readRefused tableSize poolSize x
   unfolding bundleRead
@@ -135,7 +135,7 @@ module _ (bytes buffer : List ℕ) (n : ℕ) (is : Opens bytes buffer n) (pool :
 
   pub uri-open : (r : ℕ) (q : List ℕ) → uriOfPrefixAt (take (WIDTH * n) buffer) pool r q ≡ bundleUriOfPrefix bytes r q
   unfolding bundleUriOfPrefix
-  uri-open r q = over-open Located.Refused (λ t p. uriOfPrefixAt t p r q)
+  uri-open r q = over-open Bound.Refused (λ t p. uriOfPrefixAt t p r q)
 
   pub prefix-open : (r : ℕ) (q : List ℕ) → prefixOfUriAt (take (WIDTH * n) buffer) pool r q ≡ bundlePrefixOfUri bytes r q
   unfolding bundlePrefixOfUri
@@ -147,11 +147,11 @@ module _ (bytes buffer : List ℕ) (n : ℕ) (is : Opens bytes buffer n) (pool :
 
   pub in-scope-uri-open : (r : ℕ) (q : List ℕ) → inScopeUriAt (take (WIDTH * n) buffer) pool r q ≡ bundleInScopeUri bytes r q
   unfolding bundleInScopeUri
-  in-scope-uri-open r q = over-open InScope.Refused (λ t p. inScopeUriAt t p r q)
+  in-scope-uri-open r q = over-open Bound.Refused (λ t p. inScopeUriAt t p r q)
 
   pub in-scope-prefix-open : (r : ℕ) (q : List ℕ) → inScopePrefixAt (take (WIDTH * n) buffer) pool r q ≡ bundleInScopePrefix bytes r q
   unfolding bundleInScopePrefix
-  in-scope-prefix-open r q = over-open InScope.Refused (λ t p. inScopePrefixAt t p r q)
+  in-scope-prefix-open r q = over-open Bound.Refused (λ t p. inScopePrefixAt t p r q)
 
   pub read-open : (tableSize poolSize : ℕ) → tableRead (take (WIDTH * n) buffer) pool tableSize poolSize ≡ bundleRead bytes tableSize poolSize
   unfolding bundleRead

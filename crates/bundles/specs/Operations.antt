@@ -12,7 +12,7 @@ use Rattle.rules.specs.declared.Refusal.{Refusal}
 use Rattle.rules.specs.declared.Checked.{Checked}
 use Rattle.rules.specs.declared.Located.{Located}
 use Rattle.rules.specs.declared.Tested.{Tested}
-use Rattle.rules.specs.declared.InScope.{InScope}
+use Rattle.rules.specs.declared.Bound.{Bound}
 use Rattle.rules.specs.declared.Read.{Read}
 use Rattle.rules.specs.declared.Written.{Written}
 use Rattle.bundles.specs.Bundles.{writeBundle, bundleRefusal, bundleTable, bundlePool}
@@ -80,8 +80,8 @@ bundleRead bytes tableSize poolSize =
 unfoldable pub bundleChecked : List ℕ → Checked
 bundleChecked bytes = overBundle bytes Checked.Refused checked
 
-unfoldable pub bundleUriOfPrefix : List ℕ → ℕ → List ℕ → Located
-bundleUriOfPrefix bytes row prefix = overBundle bytes Located.Refused (λ table pool. uriOfPrefixAt table pool row prefix)
+unfoldable pub bundleUriOfPrefix : List ℕ → ℕ → List ℕ → Bound
+bundleUriOfPrefix bytes row prefix = overBundle bytes Bound.Refused (λ table pool. uriOfPrefixAt table pool row prefix)
 
 unfoldable pub bundlePrefixOfUri : List ℕ → ℕ → List ℕ → Located
 bundlePrefixOfUri bytes row uri = overBundle bytes Located.Refused (λ table pool. prefixOfUriAt table pool row uri)
@@ -89,11 +89,11 @@ bundlePrefixOfUri bytes row uri = overBundle bytes Located.Refused (λ table poo
 unfoldable pub bundleIsDefault : List ℕ → ℕ → List ℕ → Tested
 bundleIsDefault bytes row uri = overBundle bytes Tested.Refused (λ table pool. isDefaultAt table pool row uri)
 
-unfoldable pub bundleInScopeUri : List ℕ → ℕ → List ℕ → InScope
-bundleInScopeUri bytes row prefix = overBundle bytes InScope.Refused (λ table pool. inScopeUriAt table pool row prefix)
+unfoldable pub bundleInScopeUri : List ℕ → ℕ → List ℕ → Bound
+bundleInScopeUri bytes row prefix = overBundle bytes Bound.Refused (λ table pool. inScopeUriAt table pool row prefix)
 
-unfoldable pub bundleInScopePrefix : List ℕ → ℕ → List ℕ → InScope
-bundleInScopePrefix bytes row uri = overBundle bytes InScope.Refused (λ table pool. inScopePrefixAt table pool row uri)
+unfoldable pub bundleInScopePrefix : List ℕ → ℕ → List ℕ → Bound
+bundleInScopePrefix bytes row uri = overBundle bytes Bound.Refused (λ table pool. inScopePrefixAt table pool row uri)
 
 -- A normalization's result as a bundle.
 unfoldable pub stateBundle : State → List ℕ

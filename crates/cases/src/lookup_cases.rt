@@ -58,16 +58,16 @@ fn lookups(table: &[u32], pool: &[u8], row: Row, line: &[u8]) {
 
 // The lookups that see elements' own names.
 fn by_names(table: &[u32], pool: &[u8], row: Row, prefix: &[u8], uri: &[u8]) {
-    let of_prefix = answers::located(lookups::uri_of_prefix(table, pool, row, prefix));
+    let of_prefix = answers::bound(lookups::uri_of_prefix(table, pool, row, prefix));
     found(texts::URI, of_prefix, texts::NOTHING);
     let of_uri = answers::located(lookups::prefix_of_uri(table, pool, row, uri));
     found(texts::PREFIX, of_uri, texts::NOTHING);
 }
 
 fn by_declarations(table: &[u32], pool: &[u8], row: Row, prefix: &[u8], uri: &[u8]) {
-    let of_prefix = answers::in_scope(lookups::in_scope_uri(table, pool, row, prefix));
+    let of_prefix = answers::bound(lookups::in_scope_uri(table, pool, row, prefix));
     found(texts::IN_SCOPE_URI, of_prefix, texts::NONE);
-    let of_uri = answers::in_scope(lookups::in_scope_prefix(table, pool, row, uri));
+    let of_uri = answers::bound(lookups::in_scope_prefix(table, pool, row, uri));
     found(texts::PREFIX, of_uri, texts::NONE);
 }
 

@@ -13,7 +13,7 @@ use Rattle.rules.specs.Lists.{firstThat, isEmpty, sameBytes}
 use Rattle.rules.specs.Table.{DECLARATION, LOCAL-NAME, VALUE, xmlPrefix, xmlnsPrefix, xmlUri, xmlnsUri, Node, nodes, nodeAt, fieldAt, rowCount}
 use Rattle.rules.specs.Lookups.{builtInXml, builtInXmlns, unbound, orUnbound, valueOf, inScopeUri, serves, prefixOf, inScopePrefix, bound}
 use Rattle.rules.specs.declared.Place.{Place}
-use Rattle.rules.specs.declared.InScope.{InScope}
+use Rattle.rules.specs.declared.Bound.{Bound}
 use Rattle.rules.proofs.Lists.{by-cases, length-empty}
 use Rattle.notes.specs.Notes.{VALUE as VALUE-NUMBER, noteAt}
 use Rattle.rows.specs.Reading.{placeAt, found}
@@ -41,14 +41,14 @@ module _ {table pool notes : List ℕ} {number : ℕ} {name : List ℕ} (m : Mea
       let empty : isEmpty (nodeAt table pool d .value .bytes) ≡ t = sym (empty-number m (value-names m d within (type within))) ∙ ap (λ (n : ℕ). eqb n 0) (sym here) ∙ is in
       ap (λ o. orUnbound (valueOf o)) (found-some table pool d within) ∙ ap (λ u. orUnbound (cond u none (some (fieldAt table pool d VALUE)))) empty
 
-  pub value-none : v ≡ 0 → InScope.Nothing ≡ bound (orUnbound (valueOf (found (nodes table pool) d)))
+  pub value-none : v ≡ 0 → Bound.Nothing ≡ bound (orUnbound (valueOf (found (nodes table pool) d)))
   value-none zero? =
       by-cases (ltb d (rowCount table))
       (λ q. sym (ap bound (by (ltb-true d (rowCount table) q) true (eq-eqb v 0 zero?))))
       (λ q. sym (ap (λ o. bound (orUnbound (valueOf o))) (found-none table pool d (ltb-false d (rowCount table) q))))
 
-  pub value-at : d < rowCount table → (v ≡ 0 → ⊥) → (p : Place) → p ≡ placeAt table d VALUE → InScope.At p ≡ bound (orUnbound (valueOf (found (nodes table pool) d)))
-  value-at within full p is = ap InScope.At is ∙ sym (ap bound (by within false (ne-eqb v 0 full)))
+  pub value-at : d < rowCount table → (v ≡ 0 → ⊥) → (p : Place) → p ≡ placeAt table d VALUE → Bound.At p ≡ bound (orUnbound (valueOf (found (nodes table pool) d)))
+  value-at within full p is = ap Bound.At is ∙ sym (ap bound (by within false (ne-eqb v 0 full)))
 
 pub value-within : (table notes : List ℕ) (d v : ℕ) → v ≡ cond (ltb d (rowCount table)) (noteAt notes d VALUE-NUMBER) 0 → (v ≡ 0 → ⊥) → d < rowCount table
 value-within table notes d v read full =
@@ -58,11 +58,11 @@ value-within table notes d v read full =
 
 -- The prefix of a declaration that may be missing.
 module _ (table pool : List ℕ) (r : ℕ) where
-  pub prefix-missing : rowCount table ≤ r → InScope.Nothing ≡ bound (prefixOf (found (nodes table pool) r))
+  pub prefix-missing : rowCount table ≤ r → Bound.Nothing ≡ bound (prefixOf (found (nodes table pool) r))
   prefix-missing past = sym (ap (λ d. bound (prefixOf d)) (found-none table pool r past))
 
-  pub prefix-place : r < rowCount table → (p : Place) → p ≡ placeAt table r LOCAL-NAME → InScope.At p ≡ bound (prefixOf (found (nodes table pool) r))
-  prefix-place within p is = ap InScope.At is ∙ sym (ap (λ d. bound (prefixOf d)) (found-some table pool r within))
+  pub prefix-place : r < rowCount table → (p : Place) → p ≡ placeAt table r LOCAL-NAME → Bound.At p ≡ bound (prefixOf (found (nodes table pool) r))
+  prefix-place within p is = ap Bound.At is ∙ sym (ap (λ d. bound (prefixOf d)) (found-some table pool r within))
 
 -- The in-scope prefix of a URI.
 module _ (scope : List Node) (uri : List ℕ) where

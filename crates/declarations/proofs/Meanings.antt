@@ -1,15 +1,18 @@
 -- What the numbers of a row say of its names.
 -- Assumes nothing.
 use Prim.Native.Nat.{ℕ, _<_, zero-le}
-use mathlib.Core.List.{List, []}
-use mathlib.Core.Path.{_≡_, _∙_}
+use mathlib.Core.List.{List, [], _∷_}
+use mathlib.Core.Path.{_≡_, refl, ap, _∙_, subst}
 use native.Mathlib.Omega.{arith}
 use lib.Dec.{eqb}
 use borrow.Author.Tests.{eq-eqb}
-use Rattle.rules.specs.Lists.{isEmpty}
-use Rattle.rules.specs.Table.{DECLARATION, nodes, nodeAt, rowCount}
+use lib.ListN.{length}
+use Rattle.rules.specs.Lists.{isOneOf, isEmpty}
+use Rattle.rules.specs.Table.{ELEMENT, ATTRIBUTE, DECLARATION, Node, nodes, nodeAt, rowCount}
 use Rattle.rules.proofs.Lists.{sameBytes-empty}
-use Rattle.rules.proofs.Accepted.{accepted}
+use Rattle.rules.proofs.Table.{node-nodes, length-nodes}
+use Rattle.rules.proofs.Declarations.{Legal}
+use Rattle.rules.proofs.Accepted.{accepted, NamespaceAccepted, namespace-accepted, declaration-accepted}
 use Rattle.notes.specs.Notes.{PREFIX, LOCAL-NAME, URI, VALUE, noteAt}
 use Rattle.numbers.specs.Numbers.{Names}
 use Rattle.numbers.proofs.Laws.{same-number}
@@ -53,6 +56,17 @@ module _ {table pool notes : List ℕ} {number : ℕ} {name : List ℕ} (m : Mea
 
     pub value-names : nodeAt table pool r .type ≡ DECLARATION → Names (m .spelling) (m .last) (noteAt notes r VALUE) (nodeAt table pool r .value .bytes)
     value-names type = let v = m .numbered .rows r within .value in rw (eq-eqb (nodeAt table pool r .type) DECLARATION type) at v
+
+    -- What the check leaves of a declaration, and of an element's name.
+    pub declared-legal : nodeAt table pool r .type ≡ DECLARATION → Legal (nodeAt table pool r)
+    declared-legal type =
+        let row = node-nodes table pool r within in
+        subst Legal row (declaration-accepted (nodes table pool) (length pool) r (accepted table pool (m .accepted) .row r (rw length-nodes within)) (ap (λ (n : Node). n .type) row ∙ type))
+
+    pub named-legal : nodeAt table pool r .type ≡ ELEMENT → NamespaceAccepted (nodeAt table pool r)
+    named-legal type =
+        let row = node-nodes table pool r within in
+        subst NamespaceAccepted row (namespace-accepted (nodes table pool) (length pool) r (accepted table pool (m .accepted) .row r (rw length-nodes within)) (ap (λ (n : Node). isOneOf (ELEMENT ∷ ATTRIBUTE ∷ []) (n .type)) row ∙ rw type refl))
 
 -- Links are no names.
 pub meant-relinked : {table pool notes : List ℕ} (notes′ : List ℕ) {number : ℕ} {name : List ℕ} → Meant table pool notes number name → Relinked notes notes′ → Meant table pool notes′ number name

@@ -10,17 +10,14 @@ use Rattle.rules.specs.Lists.{firstThat, isEmpty, sameBytes}
 use Rattle.rules.specs.Table.{TYPE, DECLARATION, xmlPrefix, xmlnsPrefix, xmlUri, Field, Node, nodes, nodeAt, word, rowCount}
 use Rattle.rules.specs.Lookups.{declares, unlessEmpty, orUnbound, valueOf, inScopeUri, uriBytes, serves}
 use Rattle.rules.proofs.Lists.{by-cases, empty-equal, sameBytes-equal}
-use Rattle.rules.proofs.Table.{node-nodes, length-nodes}
-use Rattle.rules.proofs.Declarations.{legal, not-xml}
-use Rattle.rules.proofs.Accepted.{accepted}
 use Rattle.notes.specs.Notes.{LOCAL-NAME, VALUE, noteAt}
 use Rattle.rows.specs.Reading.{found}
 use Rattle.declarations.specs.Meant.{Meant}
 use Rattle.declarations.proofs.Rows.{found-some, found-none}
-use Rattle.declarations.proofs.Meanings.{none-names, empty-number, local-names, value-names}
+use Rattle.declarations.proofs.Meanings.{none-names, empty-number, local-names, value-names, declared-legal}
 
 -- The bytes of a value, or of none when it is empty.
-value-bytes : (f : Field) → uriBytes (orUnbound (unlessEmpty f)) ≡ f .bytes
+pub value-bytes : (f : Field) → uriBytes (orUnbound (unlessEmpty f)) ≡ f .bytes
 value-bytes f =
     by-cases (isEmpty (f .bytes))
     (λ t. rw t (sym (empty-equal (f .bytes) t)))
@@ -64,11 +61,11 @@ module _ {table pool notes : List ℕ} {number : ℕ} {name : List ℕ} (m : Mea
           → is ≡ serves scope name (nodeAt table pool r)
       unfolding serves
       serves-by v read same full other is found-is =
-          let l = legal (nodeAt table pool r) type (rw (node-nodes table pool r within) at (accepted table pool (m .accepted) .row r (rw length-nodes within) .declaration)) in
+          let legal = declared-legal m r within type in
           let has : sameBytes (nodeAt table pool r .value .bytes) name ≡ true = sym value-same ∙ ap (λ (x : ℕ). eqb x number) (sym read) ∙ eq-eqb v number same in
           let value : nodeAt table pool r .value .bytes ≡ name = sameBytes-equal (nodeAt table pool r .value .bytes) name has in
-          let apart = not-xml (nodeAt table pool r) l (ap (λ (b : List ℕ). sameBytes b xmlUri) value ∙ other) in
-          found-is ∙ ap (λ b. sameBytes (uriBytes b) name) (in-scope-means scope (nodeAt table pool r .local .bytes) apart (l .notXmlns))
+          let apart = legal .xmlAlone ∙ ap (λ (b : List ℕ). sameBytes b xmlUri) value ∙ other in
+          found-is ∙ ap (λ b. sameBytes (uriBytes b) name) (in-scope-means scope (nodeAt table pool r .local .bytes) apart (legal .notXmlns))
           ∙ rw (← empty-same, ne-eqb p 0 full, has) refl
 
 -- The number of a value as it is read.

@@ -14,58 +14,46 @@ ghost use Rattle.rows.specs.Reading.{found};
 ghost use Rattle.ancestors.specs.Paths.{Element};
 ghost use Rattle.declarations.specs.Along.{Ready, Along};
 ghost use Rattle.declarations.specs.Meant.{Meant};
-use rules::InScope;
+use rules::Bound;
 use rules::Row;
 
 // The in-scope URI of a prefix that has this number, or of the default.
-pub fn in_scope_uri(
-    table: &[u32],
-    notes: &[u16],
-    path: &[u32],
-    prefix: &[u8],
-    number: u16,
-) -> InScope
+pub fn in_scope_uri(table: &[u32], notes: &[u16], path: &[u32], prefix: &[u8], number: u16) -> Bound
     requires { ⌜ Along (now table) (now notes) (now path) ⌝ }
     ensures { λ r. ⌜ ((pool : List ℕ) → Meant (now (table .entry)) pool (now (notes .entry)) number (now (prefix .entry)) → r ≡ bound (inScopeUri (scopeOf (nodes (now (table .entry)) pool) (now (path .entry))) (now (prefix .entry)))) ⌝ }
 {
     if names::is_xml(prefix) {
-        return InScope::Xml;
+        return Bound::Xml;
     }
     if names::is_xmlns(prefix) {
-        return InScope::Xmlns;
+        return Bound::Xmlns;
     }
     let row = nearest(table, notes, path, number);
     if value_of(table, notes, row) == 0 {
-        return InScope::Nothing;
+        return Bound::Nothing;
     }
-    InScope::At(rows::place(table, row, rules::VALUE))
+    Bound::At(rows::place(table, row, rules::VALUE))
 }
 
 // The in-scope prefix of a URI that has this number.
-pub fn in_scope_prefix(
-    table: &[u32],
-    notes: &[u16],
-    path: &[u32],
-    uri: &[u8],
-    number: u16,
-) -> InScope
+pub fn in_scope_prefix(table: &[u32], notes: &[u16], path: &[u32], uri: &[u8], number: u16) -> Bound
     requires { ⌜ Along (now table) (now notes) (now path) ⌝ }
     ensures { λ r. ⌜ ((pool : List ℕ) → Meant (now (table .entry)) pool (now (notes .entry)) number (now (uri .entry)) → r ≡ bound (inScopePrefix (scopeOf (nodes (now (table .entry)) pool) (now (path .entry))) (now (uri .entry)))) ⌝ }
 {
     if uri.len() == 0 {
-        return InScope::Nothing;
+        return Bound::Nothing;
     }
     if names::is_xml_uri(uri) {
-        return InScope::Xml;
+        return Bound::Xml;
     }
     if names::is_xmlns_uri(uri) {
-        return InScope::Xmlns;
+        return Bound::Xmlns;
     }
     let row = serving(table, notes, path, number);
     if rows::has_row(table, row) {
-        return InScope::At(rows::place(table, row, rules::LOCAL_NAME));
+        return Bound::At(rows::place(table, row, rules::LOCAL_NAME));
     }
-    InScope::Nothing
+    Bound::Nothing
 }
 
 // An element's own declaration of a prefix.

@@ -13,7 +13,7 @@ use Rattle.rules.specs.Lookups.{lookupElements, Binding, scopeOf, uriOfPrefix, 
 use Rattle.rules.specs.declared.Refusal.{Refusal}
 use Rattle.rules.specs.declared.Located.{Located}
 use Rattle.rules.specs.declared.Tested.{Tested}
-use Rattle.rules.specs.declared.InScope.{InScope}
+use Rattle.rules.specs.declared.Bound.{Bound}
 use Rattle.notes.specs.Notes.{NOTES}
 use Rattle.beginning.specs.Ground.{Ground}
 use Rattle.lookups.specs.Lent.{Lent}
@@ -48,7 +48,7 @@ started (suc n) (e ∷ outward) some? room found = refl
 -- The answers: refused, and along the path.
 module _ (table pool : List ℕ) (r : ℕ) (query : List ℕ) where
   module _ (x : Refusal) (is : lookupRefusal table pool r ≡ some x) where
-    pub uri-refused : Located.Refused x ≡ uriOfPrefixAt table pool r query
+    pub uri-refused : Bound.Refused x ≡ uriOfPrefixAt table pool r query
     unfolding uriOfPrefixAt
     uri-refused = rw is refl
 
@@ -60,16 +60,16 @@ module _ (table pool : List ℕ) (r : ℕ) (query : List ℕ) where
     unfolding isDefaultAt
     default-refused = rw is refl
 
-    pub in-scope-uri-refused : InScope.Refused x ≡ inScopeUriAt table pool r query
+    pub in-scope-uri-refused : Bound.Refused x ≡ inScopeUriAt table pool r query
     unfolding inScopeUriAt
     in-scope-uri-refused = rw is refl
 
-    pub in-scope-prefix-refused : InScope.Refused x ≡ inScopePrefixAt table pool r query
+    pub in-scope-prefix-refused : Bound.Refused x ≡ inScopePrefixAt table pool r query
     unfolding inScopePrefixAt
     in-scope-prefix-refused = rw is refl
 
   module _ (path : List ℕ) (n : ℕ) (ground : Going table pool r path n) where
-    pub uri-along : located (uriOfPrefix (nodes table pool) query (take n path)) ≡ uriOfPrefixAt table pool r query
+    pub uri-along : bound (uriOfPrefix (nodes table pool) query (take n path)) ≡ uriOfPrefixAt table pool r query
     unfolding uriOfPrefixAt
     uri-along = rw (ground .unrefused, ground .elements) refl
 
@@ -96,10 +96,10 @@ module _ (table pool : List ℕ) (r : ℕ) (query : List ℕ) where
       no-elements : lookupElements (nodes table pool) r ≡ []
       no-elements = sym (ground .elements) ∙ ap (λ k. take k path) over
 
-      pub in-scope-uri-nothing : InScope.Nothing ≡ inScopeUriAt table pool r query
+      pub in-scope-uri-nothing : Bound.Nothing ≡ inScopeUriAt table pool r query
       unfolding inScopeUriAt
       in-scope-uri-nothing = rw (ground .unrefused, no-elements) refl
 
-      pub in-scope-prefix-nothing : InScope.Nothing ≡ inScopePrefixAt table pool r query
+      pub in-scope-prefix-nothing : Bound.Nothing ≡ inScopePrefixAt table pool r query
       unfolding inScopePrefixAt
       in-scope-prefix-nothing = rw (ground .unrefused, no-elements) refl

@@ -2,7 +2,7 @@
 -- Assumes nothing.
 use Prim.Native.Nat.{ℕ, _+_, _≤_, min}
 use native.Mathlib.Omega.{arith}
-use mathlib.Core.Bool.{Bool, true}
+use mathlib.Core.Bool.{Bool, true, false}
 use mathlib.Core.List.{List, [], _∷_}
 use mathlib.Core.Option.{Option, none, some}
 use mathlib.Core.Path.{_≡_, refl}
@@ -10,17 +10,19 @@ use denote.Ref.{RefT}
 use lib.ListN.{length}
 use lib.Dec.{ltb, leb}
 use borrow.Author.Tests.{ltb-true, ltb-false, le-leb, leb-true}
-use Rattle.rules.specs.Lists.{isEmpty}
-use Rattle.rules.specs.Table.{Field, Node, nodes, node, rowCount}
+use Rattle.rules.specs.Lists.{isEmpty, sameBytes}
+use Rattle.rules.specs.Table.{xmlPrefix, xmlnsPrefix, Field, Node, nodes, node, rowCount}
 use Rattle.rules.specs.Refusals.{refusedIf, unlessRefused, checkRefusal}
-use Rattle.rules.specs.Lookups.{uriOfPrefix, prefixOfUri, located, lookupElements, lookupRefusal, uriOfPrefixAt, prefixOfUriAt}
-use Rattle.rules.specs.Answers.{locatedPlace}
+use Rattle.rules.specs.Lookups.{Binding, declared, builtInXml, builtInXmlns, unbound, uriOfPrefix, prefixOfUri, located, bound, lookupElements, lookupRefusal, uriOfPrefixAt, prefixOfUriAt}
+use Rattle.rules.specs.Answers.{boundPlace, locatedPlace}
 use Rattle.rules.specs.declared.Refusal.{Refusal}
+use Rattle.rules.specs.declared.Bound.{Bound}
 use Rattle.rules.specs.declared.Located.{Located}
 use Rattle.rules.proofs.Lists.{by-cases}
 use Rattle.rules.proofs.Refusals.{all-none}
 use Rattle.rules.proofs.Accepted.{Accepted, FieldAccepted, FieldsAccepted, fields-accepted, unrefused}
 use Rattle.names.specs.Parts.{StandsAt}
+use Rattle.outward.specs.Deciding.{Ordinary}
 use Rattle.outward.proofs.Left.{uriLookup, prefixLookup}
 use Rattle.outward.proofs.Every.{no-row, answers-good}
 
@@ -29,13 +31,26 @@ abbrev starts : ℕ → Option Field → Bool
 starts size none = true
 starts size (some f) = leb (f .offset) size
 
-field-starts : (size : ℕ) (f : Field) → FieldAccepted size f → starts size (some f) ≡ true
+abbrev bindingStarts : ℕ → Binding → Bool
+bindingStarts size (declared f) = leb (f .offset) size
+bindingStarts size builtInXml = true
+bindingStarts size builtInXmlns = true
+bindingStarts size unbound = true
+
+field-starts : (size : ℕ) (f : Field) → FieldAccepted size f → leb (f .offset) size ≡ true
 field-starts size f is = le-leb (f .offset) size (omega (arith, is .inPool))
 
 located-starts : (size : ℕ) (o : Option Field) → starts size o ≡ true → locatedPlace (located o) .offset .0 ≤ size
 unfolding locatedPlace
 located-starts size none is = omega arith
 located-starts size (some f) is = leb-true (f .offset) size is
+
+bound-starts : (size : ℕ) (b : Binding) → bindingStarts size b ≡ true → boundPlace (bound b) .offset .0 ≤ size
+unfolding boundPlace
+bound-starts size (declared f) is = leb-true (f .offset) size is
+bound-starts size builtInXml is = omega arith
+bound-starts size builtInXmlns is = omega arith
+bound-starts size unbound is = omega arith
 
 module _ (table pool : List ℕ) (is : Accepted table pool) where
   abbrev ns : List Node
@@ -54,12 +69,31 @@ module _ (table pool : List ℕ) (is : Accepted table pool) where
         value = record { inPool = omega arith; noOffset = λ e. refl };
       }))
 
-  uri-starts : (prefix path : List ℕ) → starts (length pool) (uriOfPrefix ns prefix path) ≡ true
-  uri-starts prefix path =
-      answers-good ns (uriLookup ns prefix) (starts (length pool)) refl (λ e. field-starts (length pool) (node ns e .uri) (row-fields e .uri))
+  xml-starts : (prefix path : List ℕ) → sameBytes prefix xmlPrefix ≡ true → bindingStarts (length pool) (uriOfPrefix ns prefix path) ≡ true
+  unfolding uriOfPrefix
+  xml-starts prefix [] is = refl
+  xml-starts prefix (e ∷ outward) is = rw is refl
+
+  xmlns-starts :
+      (prefix path : List ℕ) → sameBytes prefix xmlPrefix ≡ false → sameBytes prefix xmlnsPrefix ≡ true
+      → bindingStarts (length pool) (uriOfPrefix ns prefix path) ≡ true
+  unfolding uriOfPrefix
+  xmlns-starts prefix [] other is = refl
+  xmlns-starts prefix (e ∷ outward) other is = rw (other, is) refl
+
+  ordinary-starts : (prefix path : List ℕ) → Ordinary prefix → bindingStarts (length pool) (uriOfPrefix ns prefix path) ≡ true
+  ordinary-starts prefix path ordinary =
+      answers-good ns (uriLookup ns prefix ordinary) (bindingStarts (length pool)) refl (λ e. field-starts (length pool) (node ns e .uri) (row-fields e .uri))
       (λ r less.
       by-cases (isEmpty (node ns r .value .bytes)) (λ empty. rw empty refl)
       (λ full. rw full (field-starts (length pool) (node ns r .value) (row-fields r .value)))) path
+
+  uri-starts : (prefix path : List ℕ) → bindingStarts (length pool) (uriOfPrefix ns prefix path) ≡ true
+  uri-starts prefix path =
+      by-cases (sameBytes prefix xmlPrefix) (xml-starts prefix path)
+      (λ notXml.
+      by-cases (sameBytes prefix xmlnsPrefix) (xmlns-starts prefix path notXml)
+      (λ notXmlns. ordinary-starts prefix path (record { notXml = notXml; notXmlns = notXmlns })))
 
   prefix-starts : (uri path : List ℕ) → starts (length pool) (prefixOfUri ns uri path) ≡ true
   unfolding prefixOfUri
@@ -78,28 +112,29 @@ module _ (table pool : List ℕ) (r : ℕ) where
       unrefused table pool (all-none (checkRefusal table pool ∷ refusedIf (leb (rowCount table) r) Refusal.NoSuchRow ∷ []) is .0)
 
   unless-refused :
-      (found : Option Field) → (Accepted table pool → starts (length pool) found ≡ true) → (o : Option Refusal) → lookupRefusal table pool r ≡ o
-      → locatedPlace (unlessRefused o Located.Refused (located found)) .offset .0 ≤ length pool
-  unfolding locatedPlace
-  unless-refused found in? none is = located-starts (length pool) found (in? (table-accepted is))
-  unless-refused found in? (some x) is = omega arith
+      {A : Type 0} (offset : A → ℕ) (refused : Refusal → A) (answer : A) → ((x : Refusal) → offset (refused x) ≤ length pool)
+      → (Accepted table pool → offset answer ≤ length pool) → (o : Option Refusal) → lookupRefusal table pool r ≡ o → offset (unlessRefused o refused answer) ≤ length pool
+  unless-refused offset refused answer nothing in? none is = in? (table-accepted is)
+  unless-refused offset refused answer nothing in? (some x) is = nothing x
 
-  pub uri-place : (prefix : List ℕ) → locatedPlace (uriOfPrefixAt table pool r prefix) .offset .0 ≤ length pool
-  unfolding uriOfPrefixAt
+  pub uri-place : (prefix : List ℕ) → boundPlace (uriOfPrefixAt table pool r prefix) .offset .0 ≤ length pool
+  unfolding uriOfPrefixAt boundPlace
   uri-place prefix =
-      unless-refused (uriOfPrefix (nodes table pool) prefix (lookupElements (nodes table pool) r))
-      (λ is. uri-starts table pool is prefix (lookupElements (nodes table pool) r)) (lookupRefusal table pool r) refl
+      let found = uriOfPrefix (nodes table pool) prefix (lookupElements (nodes table pool) r) in
+      unless-refused (λ a. boundPlace a .offset .0) Bound.Refused (bound found) (λ x. omega arith)
+      (λ is. bound-starts (length pool) found (uri-starts table pool is prefix (lookupElements (nodes table pool) r))) (lookupRefusal table pool r) refl
 
   pub prefix-place : (uri : List ℕ) → locatedPlace (prefixOfUriAt table pool r uri) .offset .0 ≤ length pool
-  unfolding prefixOfUriAt
+  unfolding prefixOfUriAt locatedPlace
   prefix-place uri =
-      unless-refused (prefixOfUri (nodes table pool) uri (lookupElements (nodes table pool) r))
-      (λ is. prefix-starts table pool is uri (lookupElements (nodes table pool) r)) (lookupRefusal table pool r) refl
+      let found = prefixOfUri (nodes table pool) uri (lookupElements (nodes table pool) r) in
+      unless-refused (λ a. locatedPlace a .offset .0) Located.Refused (located found) (λ x. omega arith)
+      (λ is. located-starts (length pool) found (prefix-starts table pool is uri (lookupElements (nodes table pool) r))) (lookupRefusal table pool r) refl
 
 -- The part stands at a place that lies in the pool.
 pub stands-at :
-    (pool part : RefT (List ℕ)) (found answer : Located) → found ≡ answer → locatedPlace answer .offset .0 ≤ length (pool .now)
-    → StandsAt pool (locatedPlace found .offset .0) part → (part .ptr .0 ≡ pool .ptr .0) × (part .ptr .1 ≡ pool .ptr .1 + locatedPlace answer .offset .0)
-stands-at pool part found answer is inside stands =
-    let at : part .ptr .1 ≡ pool .ptr .1 + min (locatedPlace answer .offset .0) (length (pool .now)) = rw is at (stands .place) in
+    {A : Type 0} (offset : A → ℕ) (pool part : RefT (List ℕ)) (found answer : A) → found ≡ answer → offset answer ≤ length (pool .now)
+    → StandsAt pool (offset found) part → (part .ptr .0 ≡ pool .ptr .0) × (part .ptr .1 ≡ pool .ptr .1 + offset answer)
+stands-at offset pool part found answer is inside stands =
+    let at : part .ptr .1 ≡ pool .ptr .1 + min (offset answer) (length (pool .now)) = rw is at (stands .place) in
     (stands .block, omega (arith, at, inside))

@@ -2,17 +2,17 @@
 // Each runs the whole check first, and asks for names by their numbers. None writes anything.
 ghost use mathlib.Core.Path.{_≡_};
 ghost use Prim.Native.Nat.{_+_};
-ghost use Rattle.rules.specs.Lookups.{uriOfPrefixAt, prefixOfUriAt, isDefaultAt, inScopeUriAt, inScopePrefixAt, locatedPart};
-ghost use Rattle.rules.specs.Answers.{locatedPlace};
+ghost use Rattle.rules.specs.Lookups.{uriOfPrefixAt, prefixOfUriAt, isDefaultAt, inScopeUriAt, inScopePrefixAt, boundPart, locatedPart};
+ghost use Rattle.rules.specs.Answers.{boundPlace, locatedPlace};
 ghost use Rattle.lookups.specs.Lent.{Lent};
 use beginning::Begun;
-use rules::InScope;
+use rules::Bound;
 use rules::Located;
 use rules::Row;
 use rules::Tested;
 
 // The URI of a prefix at a row; the empty prefix is the default.
-pub fn uri_of_prefix(table: &[u32], pool: &[u8], row: Row, prefix: &[u8]) -> Located
+pub fn uri_of_prefix(table: &[u32], pool: &[u8], row: Row, prefix: &[u8]) -> Bound
     ensures { λ r. ⌜ r ≡ uriOfPrefixAt (now (table .entry)) (now (pool .entry)) (row .0) (now (prefix .entry)) ⌝ }
 {
     if rows::row_count(table) <= checker::FEW_ROWS {
@@ -54,7 +54,7 @@ pub fn is_default(table: &[u32], pool: &[u8], row: Row, uri: &[u8]) -> Tested
 }
 
 // The in-scope URI of a prefix at a row: by declarations alone.
-pub fn in_scope_uri(table: &[u32], pool: &[u8], row: Row, prefix: &[u8]) -> InScope
+pub fn in_scope_uri(table: &[u32], pool: &[u8], row: Row, prefix: &[u8]) -> Bound
     ensures { λ r. ⌜ r ≡ inScopeUriAt (now (table .entry)) (now (pool .entry)) (row .0) (now (prefix .entry)) ⌝ }
 {
     if rows::row_count(table) <= checker::FEW_ROWS {
@@ -68,7 +68,7 @@ pub fn in_scope_uri(table: &[u32], pool: &[u8], row: Row, prefix: &[u8]) -> InSc
 }
 
 // An in-scope prefix of a URI at a row: by declarations alone.
-pub fn in_scope_prefix(table: &[u32], pool: &[u8], row: Row, uri: &[u8]) -> InScope
+pub fn in_scope_prefix(table: &[u32], pool: &[u8], row: Row, uri: &[u8]) -> Bound
     ensures { λ r. ⌜ r ≡ inScopePrefixAt (now (table .entry)) (now (pool .entry)) (row .0) (now (uri .entry)) ⌝ }
 {
     if rows::row_count(table) <= checker::FEW_ROWS {
@@ -81,13 +81,13 @@ pub fn in_scope_prefix(table: &[u32], pool: &[u8], row: Row, uri: &[u8]) -> InSc
     in_scope_prefix_in(table, pool, row, uri, &mut notes, &mut path)
 }
 
-// The URI that uri_of_prefix finds, as a part of the pool; empty for nothing and for a refusal.
+// The URI that uri_of_prefix finds, as a part of the pool; empty for a built-in, for nothing and for a refusal.
 pub fn uri_part<'p, 'q>(table: &[u32], pool: &'p [u8], row: Row, prefix: &'q [u8]) -> &'p [u8]
-    ensures { λ r. ⌜ now r ≡ locatedPart (now (pool .entry)) (uriOfPrefixAt (now (table .entry)) (now (pool .entry)) (row .0) (now (prefix .entry))) ⌝ }
+    ensures { λ r. ⌜ now r ≡ boundPart (now (pool .entry)) (uriOfPrefixAt (now (table .entry)) (now (pool .entry)) (row .0) (now (prefix .entry))) ⌝ }
     ensures { λ r. ⌜ r .ptr .0 ≡ pool .entry .ptr .0 ⌝ }
-    ensures { λ r. ⌜ r .ptr .1 ≡ pool .entry .ptr .1 + locatedPlace (uriOfPrefixAt (now (table .entry)) (now (pool .entry)) (row .0) (now (prefix .entry))) .offset .0 ⌝ }
+    ensures { λ r. ⌜ r .ptr .1 ≡ pool .entry .ptr .1 + boundPlace (uriOfPrefixAt (now (table .entry)) (now (pool .entry)) (row .0) (now (prefix .entry))) .offset .0 ⌝ }
 {
-    names::located_part(pool, uri_of_prefix(table, pool, row, prefix))
+    names::bound_part(pool, uri_of_prefix(table, pool, row, prefix))
 }
 
 // The prefix that prefix_of_uri finds, as a part of the pool; empty for nothing and for a refusal.
@@ -107,16 +107,16 @@ fn uri_of_prefix_in(
     prefix: &[u8],
     notes: &mut [u16],
     path: &mut [u32],
-) -> Located
+) -> Bound
     requires { ⌜ Lent (now table) (now notes) (now path) ⌝ }
     ensures { λ r. ⌜ r ≡ uriOfPrefixAt (now (table .entry)) (now (pool .entry)) (row .0) (now (prefix .entry)) ⌝ }
 {
     match beginning::begin(table, pool, row, prefix, notes) {
         Begun::Asked(number) => {
             let n = beginning::climb(table, row, notes, path);
-            outward::uri_of_prefix(table, notes, &path[..n], number)
+            outward::uri_of_prefix(table, notes, &path[..n], prefix, number)
         }
-        Begun::Refused(x) => Located::Refused(x),
+        Begun::Refused(x) => Bound::Refused(x),
     }
 }
 
@@ -134,7 +134,7 @@ fn prefix_of_uri_in(
     match beginning::begin(table, pool, row, uri, notes) {
         Begun::Asked(number) => {
             let n = beginning::climb(table, row, notes, path);
-            outward::prefix_of_uri(table, notes, &path[..n], number)
+            outward::prefix_of_uri(table, notes, &path[..n], uri, number)
         }
         Begun::Refused(x) => Located::Refused(x),
     }
@@ -170,7 +170,7 @@ fn in_scope_uri_in(
     prefix: &[u8],
     notes: &mut [u16],
     path: &mut [u32],
-) -> InScope
+) -> Bound
     requires { ⌜ Lent (now table) (now notes) (now path) ⌝ }
     ensures { λ r. ⌜ r ≡ inScopeUriAt (now (table .entry)) (now (pool .entry)) (row .0) (now (prefix .entry)) ⌝ }
 {
@@ -178,11 +178,11 @@ fn in_scope_uri_in(
         Begun::Asked(number) => {
             let n = beginning::climb(table, row, notes, path);
             if n == 0 {
-                return InScope::Nothing; // built-ins included
+                return Bound::Nothing; // built-ins included
             }
             declarations::in_scope_uri(table, notes, &path[..n], prefix, number)
         }
-        Begun::Refused(x) => InScope::Refused(x),
+        Begun::Refused(x) => Bound::Refused(x),
     }
 }
 
@@ -193,7 +193,7 @@ fn in_scope_prefix_in(
     uri: &[u8],
     notes: &mut [u16],
     path: &mut [u32],
-) -> InScope
+) -> Bound
     requires { ⌜ Lent (now table) (now notes) (now path) ⌝ }
     ensures { λ r. ⌜ r ≡ inScopePrefixAt (now (table .entry)) (now (pool .entry)) (row .0) (now (uri .entry)) ⌝ }
 {
@@ -201,10 +201,10 @@ fn in_scope_prefix_in(
         Begun::Asked(number) => {
             let n = beginning::climb(table, row, notes, path);
             if n == 0 {
-                return InScope::Nothing;
+                return Bound::Nothing;
             }
             declarations::in_scope_prefix(table, notes, &path[..n], uri, number)
         }
-        Begun::Refused(x) => InScope::Refused(x),
+        Begun::Refused(x) => Bound::Refused(x),
     }
 }

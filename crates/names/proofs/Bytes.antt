@@ -13,9 +13,10 @@ use lib.ListN.{length, getD, take, drop, length-drop, drop-of-length-le}
 use lib.Seq.{drop-cons, drop-drop}
 use Rattle.rules.specs.Lists.{allOf, sameBytes}
 use Rattle.rules.specs.Table.{part}
+use Rattle.rules.specs.declared.Bound.{Bound}
 use Rattle.rules.specs.declared.Located.{Located}
-use Rattle.rules.specs.Lookups.{locatedPart}
-use Rattle.rules.specs.Answers.{locatedPlace}
+use Rattle.rules.specs.Lookups.{boundPart, locatedPart}
+use Rattle.rules.specs.Answers.{boundPlace, locatedPlace}
 use Rattle.rules.specs.Refusals.{isBetween, isFirstByte, isNameByte, goodName}
 use Rattle.rules.proofs.Lists.{true-not-false, true-both, equal-sameBytes, unequal-sameBytes}
 use Rattle.names.proofs.Order.{end-then-front}
@@ -102,6 +103,16 @@ part-within pool offset size start count e f =
     front ∙ ap (take size) back
 
 -- The part of the pool that an answer stands for, and its place.
+pub bound-as :
+    (pool : List ℕ) (answer form : Bound) → answer ≡ form
+    → (part pool (boundPlace form .offset .0) (boundPlace form .length) ≡ boundPart pool answer) × (boundPlace answer ≡ boundPlace form)
+unfolding boundPart boundPlace
+bound-as pool answer (Bound.At p) is = (rw is, rw is)
+bound-as pool answer Bound.Xml is = (rw is, rw is)
+bound-as pool answer Bound.Xmlns is = (rw is, rw is)
+bound-as pool answer Bound.Nothing is = (rw is, rw is)
+bound-as pool answer (Bound.Refused x) is = (rw is, rw is)
+
 pub located-as :
     (pool : List ℕ) (answer form : Located) → answer ≡ form
     → (part pool (locatedPlace form .offset .0) (locatedPlace form .length) ≡ locatedPart pool answer) × (locatedPlace answer ≡ locatedPlace form)

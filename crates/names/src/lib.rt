@@ -4,10 +4,11 @@ ghost use Prim.Native.Nat.{_+_, _≤_, min};
 ghost use lib.ListN.{length};
 ghost use Rattle.rules.specs.Lists.{sameBytes};
 ghost use Rattle.rules.specs.Table.{part, xmlPrefix, xmlnsPrefix, xmlUri, xmlnsUri};
-ghost use Rattle.rules.specs.Lookups.{locatedPart};
-ghost use Rattle.rules.specs.Answers.{locatedPlace};
+ghost use Rattle.rules.specs.Lookups.{boundPart, locatedPart};
+ghost use Rattle.rules.specs.Answers.{boundPlace, locatedPlace};
 ghost use Rattle.rules.specs.Refusals.{isFirstByte, isNameByte, goodName};
 ghost use Rattle.names.specs.Parts.{StandsAt};
+use rules::Bound;
 use rules::Located;
 use rules::Offset;
 
@@ -45,7 +46,21 @@ pub fn part<'p>(pool: &'p [u8], offset: Offset, length: u32) -> &'p [u8]
     &pool[start..start + size]
 }
 
-// The part of the pool that an answer stands for; empty for nothing and for a refusal.
+// The part of the pool that an answer for a URI stands for; empty for a built-in, for nothing and for a refusal.
+pub fn bound_part<'p>(pool: &'p [u8], found: Bound) -> &'p [u8]
+    ensures { λ r. ⌜ now r ≡ boundPart (now (pool .entry)) found ⌝ }
+    ensures { λ r. ⌜ StandsAt (pool .entry) (boundPlace found .offset .0) r ⌝ }
+{
+    match found {
+        Bound::At(place) => part(pool, place.offset, place.length),
+        Bound::Xml => part(pool, Offset(0), 0),
+        Bound::Xmlns => part(pool, Offset(0), 0),
+        Bound::Nothing => part(pool, Offset(0), 0),
+        Bound::Refused(_) => part(pool, Offset(0), 0),
+    }
+}
+
+// The part of the pool that an answer for a prefix stands for; empty for nothing and for a refusal.
 pub fn located_part<'p>(pool: &'p [u8], found: Located) -> &'p [u8]
     ensures { λ r. ⌜ now r ≡ locatedPart (now (pool .entry)) found ⌝ }
     ensures { λ r. ⌜ StandsAt (pool .entry) (locatedPlace found .offset .0) r ⌝ }

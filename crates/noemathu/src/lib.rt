@@ -2,7 +2,7 @@
 // answer.
 ghost use mathlib.Core.Path.{_≡_};
 ghost use lib.ListN.{length};
-ghost use Rattle.answers.specs.Given.{checkGiven, locatedGiven, testedGiven, inScopeGiven, readGiven, writtenGiven};
+ghost use Rattle.answers.specs.Given.{checkGiven, locatedGiven, testedGiven, boundGiven, readGiven, writtenGiven};
 ghost use Rattle.bundles.specs.Operations.{bundleRead, tableWritten, bundleChecked, bundleUriOfPrefix, bundlePrefixOfUri, bundleIsDefault, bundleInScopeUri, bundleInScopePrefix, bundleNormalized};
 ghost use Rattle.markup.specs.Writing.{bundleText};
 use answers::Found;
@@ -23,9 +23,9 @@ pub extern "C" fn noemathu_check(bundle: &[u8]) -> Number
 // The URI of a prefix at a row; the empty prefix is the default.
 #[no_mangle]
 pub extern "C" fn noemathu_uri_of_prefix(bundle: &[u8], row: u32, prefix: &[u8]) -> Found
-    ensures { λ r. ⌜ r ≡ locatedGiven (bundleUriOfPrefix (now (bundle .entry)) row (now (prefix .entry))) ⌝ }
+    ensures { λ r. ⌜ r ≡ boundGiven (bundleUriOfPrefix (now (bundle .entry)) row (now (prefix .entry))) ⌝ }
 {
-    answers::located(sessions::uri_of_prefix(bundle, Row(row), prefix))
+    answers::bound(sessions::uri_of_prefix(bundle, Row(row), prefix))
 }
 
 // A prefix of a URI at a row.
@@ -47,17 +47,17 @@ pub extern "C" fn noemathu_is_default(bundle: &[u8], row: u32, uri: &[u8]) -> Te
 // The in-scope URI of a prefix at a row: by declarations alone.
 #[no_mangle]
 pub extern "C" fn noemathu_in_scope_uri(bundle: &[u8], row: u32, prefix: &[u8]) -> Found
-    ensures { λ r. ⌜ r ≡ inScopeGiven (bundleInScopeUri (now (bundle .entry)) row (now (prefix .entry))) ⌝ }
+    ensures { λ r. ⌜ r ≡ boundGiven (bundleInScopeUri (now (bundle .entry)) row (now (prefix .entry))) ⌝ }
 {
-    answers::in_scope(sessions::in_scope_uri(bundle, Row(row), prefix))
+    answers::bound(sessions::in_scope_uri(bundle, Row(row), prefix))
 }
 
 // An in-scope prefix of a URI at a row: by declarations alone.
 #[no_mangle]
 pub extern "C" fn noemathu_in_scope_prefix(bundle: &[u8], row: u32, uri: &[u8]) -> Found
-    ensures { λ r. ⌜ r ≡ inScopeGiven (bundleInScopePrefix (now (bundle .entry)) row (now (uri .entry))) ⌝ }
+    ensures { λ r. ⌜ r ≡ boundGiven (bundleInScopePrefix (now (bundle .entry)) row (now (uri .entry))) ⌝ }
 {
-    answers::in_scope(sessions::in_scope_prefix(bundle, Row(row), uri))
+    answers::bound(sessions::in_scope_prefix(bundle, Row(row), uri))
 }
 
 // Normalizes a bundle into a bundle: so that every element and every owned attribute means its URI in scope, whatever the

@@ -1,4 +1,4 @@
--- The three lookups go along a path in one way: what is left of the path gives what the whole path gives.
+-- The lookups go along a path in one way: what is left of the path gives what the whole path gives.
 -- Assumes nothing.
 use Prim.Native.Nat.{ℕ, suc, _-_, _≤_, _<_}
 use native.Mathlib.Omega.{arith}
@@ -9,14 +9,15 @@ use mathlib.Core.Option.{Option, none, some}
 use mathlib.Core.Path.{_≡_, refl, sym, ap, _∙_, subst}
 use lib.ListN.{length, getD, take, drop}
 use borrow.Rule.Slice.PartAt.{part-to-end}
-use Rattle.rules.specs.Lists.{firstThat, sameBytes}
+use Rattle.rules.specs.Lists.{firstThat}
 use Rattle.rules.specs.Table.{Field, Node, nodes, node, nodeAt, rowCount}
-use Rattle.rules.specs.Lookups.{ownDeclarations, declares, unlessEmpty, declaredValueOr, namesUri, uriOfPrefix, declaredPrefixOr, namesPrefix, givesPrefix, prefixAmong, valueEqualsOr, namesDefault, isDefault}
+use Rattle.rules.specs.Lookups.{ownDeclarations, declares, unlessEmpty, Binding, declared as foundAt, unbound, orUnbound, declaredValueOr, namesUri, uriOfPrefix, declaredPrefixOr, namesPrefix, givesPrefix, prefixAmong}
 use Rattle.rules.proofs.Table.{node-nodes}
 use Rattle.rows.specs.Reading.{found}
 use Rattle.ancestors.specs.Paths.{Element}
 use Rattle.declarations.specs.Along.{Along}
 use Rattle.declarations.proofs.Rows.{found-some, found-none}
+use Rattle.outward.specs.Deciding.{Ordinary}
 
 -- The declaration's answer, or what comes further outward.
 abbrev pub declaredOr : {A : Type 0} → (Node → A) → A → Option Node → A
@@ -98,34 +99,35 @@ module _ {A : Type 0} (table pool path : List ℕ) (lookup : Lookup (nodes table
       pub left-next : rowCount table ≤ d → Left table pool path lookup (take (length left - 1) (drop 1 left))
       left-next past = subst (Left table pool path lookup) (sym (part-to-end left 1)) (record { same = further none (found-none table pool d past) })
 
--- The URI of a prefix.
-module _ (ns : List Node) (prefix : List ℕ) where
-  value-or : (further : Option Field) (o : Option Node) → declaredValueOr o further ≡ declaredOr (λ d. unlessEmpty (d .value)) further o
+-- The URI of a prefix that is not built in.
+module _ (ns : List Node) (prefix : List ℕ) (ordinary : Ordinary prefix) where
+  value-or : (further : Binding) (o : Option Node) → declaredValueOr o further ≡ declaredOr (λ d. orUnbound (unlessEmpty (d .value))) further o
   value-or further none = refl
   value-or further (some d) = refl
 
-  pub uri-end : uriOfPrefix ns prefix [] ≡ none
+  pub uri-end : uriOfPrefix ns prefix [] ≡ unbound
   unfolding uriOfPrefix
   uri-end = refl
 
   pub uri-step :
       (e : ℕ) (outward : List ℕ)
       → uriOfPrefix ns prefix (e ∷ outward)
-      ≡ cond (namesUri prefix (node ns e)) (some (node ns e .uri))
-      (declaredOr (λ d. unlessEmpty (d .value)) (uriOfPrefix ns prefix outward) (firstThat (declares prefix) (ownDeclarations ns e)))
+      ≡ cond (namesUri prefix (node ns e)) (foundAt (node ns e .uri))
+      (declaredOr (λ d. orUnbound (unlessEmpty (d .value))) (uriOfPrefix ns prefix outward) (firstThat (declares prefix) (ownDeclarations ns e)))
   unfolding uriOfPrefix
   uri-step e outward =
-      ap (cond (namesUri prefix (node ns e)) (some (node ns e .uri))) (value-or (uriOfPrefix ns prefix outward) (firstThat (declares prefix) (ownDeclarations ns e)))
+      rw (ordinary .notXml, ordinary .notXmlns)
+      (ap (cond (namesUri prefix (node ns e)) (foundAt (node ns e .uri))) (value-or (uriOfPrefix ns prefix outward) (firstThat (declares prefix) (ownDeclarations ns e))))
 
-  abbrev pub uriLookup : Lookup ns (Option Field)
+  abbrev pub uriLookup : Lookup ns Binding
   uriLookup =
       record {
         answer = uriOfPrefix ns prefix;
         named = namesUri prefix;
-        own = λ n. some (n .uri);
+        own = λ n. foundAt (n .uri);
         test = declares prefix;
-        declared = λ d. unlessEmpty (d .value);
-        nothing = none;
+        declared = λ d. orUnbound (unlessEmpty (d .value));
+        nothing = unbound;
         end = uri-end;
         step = uri-step;
       }
@@ -161,37 +163,4 @@ module _ (ns : List Node) (start uri : List ℕ) where
         nothing = none;
         end = prefix-end;
         step = prefix-step;
-      }
-
--- The default test.
-module _ (ns : List Node) (uri : List ℕ) where
-  equals-or : (further : Bool) (o : Option Node) → valueEqualsOr uri o further ≡ declaredOr (λ d. sameBytes (d .value .bytes) uri) further o
-  equals-or further none = refl
-  equals-or further (some d) = refl
-
-  pub default-end : isDefault ns uri [] ≡ false
-  unfolding isDefault
-  default-end = refl
-
-  pub default-step :
-      (e : ℕ) (outward : List ℕ)
-      → isDefault ns uri (e ∷ outward)
-      ≡ cond (namesDefault (node ns e)) (sameBytes (node ns e .uri .bytes) uri)
-      (declaredOr (λ d. sameBytes (d .value .bytes) uri) (isDefault ns uri outward) (firstThat (declares []) (ownDeclarations ns e)))
-  unfolding isDefault
-  default-step e outward =
-      ap (cond (namesDefault (node ns e)) (sameBytes (node ns e .uri .bytes) uri))
-      (equals-or (isDefault ns uri outward) (firstThat (declares []) (ownDeclarations ns e)))
-
-  abbrev pub defaultLookup : Lookup ns Bool
-  defaultLookup =
-      record {
-        answer = isDefault ns uri;
-        named = namesDefault;
-        own = λ n. sameBytes (n .uri .bytes) uri;
-        test = declares [];
-        declared = λ d. sameBytes (d .value .bytes) uri;
-        nothing = false;
-        end = default-end;
-        step = default-step;
       }

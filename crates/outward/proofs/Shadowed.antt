@@ -7,7 +7,7 @@ use mathlib.Core.Option.{Option, none, some, Option·none-ne-some}
 use mathlib.Core.Path.{_≡_, refl, sym, ap, _∙_}
 use Rattle.rules.specs.Lists.{firstThat, isEmpty, sameBytes}
 use Rattle.rules.specs.Table.{Field, Node, node}
-use Rattle.rules.specs.Lookups.{hasName, bytesOf, ownDeclarations, uriOfPrefix, leadsTo, declaredPrefixOr, namesPrefix, givesPrefix, prefixAmong, prefixOfUri}
+use Rattle.rules.specs.Lookups.{hasName, uriBytes, ownDeclarations, uriOfPrefix, leadsTo, declaredPrefixOr, namesPrefix, givesPrefix, prefixAmong, prefixOfUri}
 use Rattle.rules.proofs.Lists.{by-cases, both-true, sameBytes-equal, firstThat-passes}
 
 module _ (ns : List Node) (start uri : List ℕ) where
@@ -44,13 +44,13 @@ module _ (ns : List Node) (start uri : List ℕ) where
 
 -- The URI of an answered prefix, looked up from the start element, is the one that was asked for.
 pub answer-leads :
-    (ns : List Node) (start uri : List ℕ) (f : Field) → prefixOfUri ns uri start ≡ some f → bytesOf (uriOfPrefix ns (f .bytes) start) ≡ uri
+    (ns : List Node) (start uri : List ℕ) (f : Field) → prefixOfUri ns uri start ≡ some f → uriBytes (uriOfPrefix ns (f .bytes) start) ≡ uri
 unfolding prefixOfUri leadsTo
 answer-leads ns start uri f is =
     by-cases (isEmpty uri) (λ empty. absurd (Option·none-ne-some f (rw empty at is)))
-    (λ full. sameBytes-equal (bytesOf (uriOfPrefix ns (f .bytes) start)) uri (among-leads ns start uri start f (rw full at is)))
+    (λ full. sameBytes-equal (uriBytes (uriOfPrefix ns (f .bytes) start)) uri (among-leads ns start uri start f (rw full at is)))
 
 -- A shadowed prefix, whose URI from the start element is another, is never answered.
 pub shadowed-never :
-    (ns : List Node) (start uri : List ℕ) (f : Field) → (bytesOf (uriOfPrefix ns (f .bytes) start) ≡ uri → ⊥) → prefixOfUri ns uri start ≡ some f → ⊥
+    (ns : List Node) (start uri : List ℕ) (f : Field) → (uriBytes (uriOfPrefix ns (f .bytes) start) ≡ uri → ⊥) → prefixOfUri ns uri start ≡ some f → ⊥
 shadowed-never ns start uri f other is = other (answer-leads ns start uri f is)

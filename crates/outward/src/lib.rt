@@ -5,48 +5,65 @@ ghost use mathlib.Core.Bool.{_&&_, not};
 ghost use mathlib.Core.List.{List};
 ghost use Prim.Native.Nat.{ℕ, _*_, _≤_, _<_};
 ghost use lib.ListN.{length};
-ghost use Rattle.rules.specs.Lists.{firstThat, isEmpty};
-ghost use Rattle.rules.specs.Table.{TYPE, DECLARATION, nodes, nodeAt, word, rowCount};
-ghost use Rattle.rules.specs.Lookups.{ownDeclarations, namesUri, uriOfPrefix, leadsTo, namesPrefix, givesPrefix, prefixOfUri, namesDefault, isDefault, located};
+ghost use Rattle.rules.specs.Lists.{firstThat, isEmpty, sameBytes};
+ghost use Rattle.rules.specs.Table.{TYPE, DECLARATION, xmlUri, nodes, nodeAt, word, rowCount};
+ghost use Rattle.rules.specs.Lookups.{ownDeclarations, namesUri, uriOfPrefix, leadsTo, namesPrefix, givesPrefix, prefixOfUri, isDefault, located, bound};
 ghost use Rattle.notes.specs.Notes.{NOTES};
 ghost use Rattle.rows.specs.Reading.{found};
 ghost use Rattle.ancestors.specs.Paths.{Element};
 ghost use Rattle.declarations.specs.Along.{Along};
 ghost use Rattle.declarations.specs.Meant.{Meant};
-ghost use Rattle.outward.specs.Deciding.{decided, decidedNumber};
+ghost use Rattle.outward.specs.Deciding.{Started, Ordinary, Together, decided, decidedNumber};
+use rules::Bound;
 use rules::Located;
 use rules::Row;
 
-// The URI of a prefix, or of the default.
-pub fn uri_of_prefix(table: &[u32], notes: &[u16], path: &[u32], prefix: u16) -> Located
+// The URI of a prefix that has this number, or of the default.
+pub fn uri_of_prefix(
+    table: &[u32],
+    notes: &[u16],
+    path: &[u32],
+    prefix: &[u8],
+    number: u16,
+) -> Bound
     requires { ⌜ Along (now table) (now notes) (now path) ⌝ }
-    ensures { λ r. ⌜ ((pool name : List ℕ) → Meant (now (table .entry)) pool (now (notes .entry)) prefix name → r ≡ located (uriOfPrefix (nodes (now (table .entry)) pool) name (now (path .entry)))) ⌝ }
+    ensures { λ r. ⌜ ((pool : List ℕ) → Meant (now (table .entry)) pool (now (notes .entry)) number (now (prefix .entry)) → r ≡ bound (uriOfPrefix (nodes (now (table .entry)) pool) (now (prefix .entry)) (now (path .entry)))) ⌝ }
 {
-    let row = deciding(table, notes, path, prefix);
+    if path.len() == 0 {
+        return Bound::Nothing; // built-ins included
+    }
+    if names::is_xml(prefix) {
+        return Bound::Xml;
+    }
+    if names::is_xmlns(prefix) {
+        return Bound::Xmlns;
+    }
+    let row = deciding(table, notes, path, number);
     if uri_number(table, notes, row) == 0 {
-        return Located::Nothing;
+        return Bound::Nothing;
     }
     if rows::kind(table, row) == rules::DECLARATION {
-        return Located::At(rows::place(table, row, rules::VALUE));
+        return Bound::At(rows::place(table, row, rules::VALUE));
     }
-    Located::At(rows::place(table, row, rules::URI))
+    Bound::At(rows::place(table, row, rules::URI))
 }
 
-// The prefix of a URI. The empty URI has none.
-pub fn prefix_of_uri(table: &[u32], notes: &[u16], path: &[u32], uri: u16) -> Located
+// The prefix of a URI that has this number. The empty URI has none.
+pub fn prefix_of_uri(table: &[u32], notes: &[u16], path: &[u32], uri: &[u8], number: u16) -> Located
     requires { ⌜ Along (now table) (now notes) (now path) ⌝ }
-    ensures { λ r. ⌜ ((pool name : List ℕ) → Meant (now (table .entry)) pool (now (notes .entry)) uri name → r ≡ located (prefixOfUri (nodes (now (table .entry)) pool) name (now (path .entry)))) ⌝ }
+    ensures { λ r. ⌜ ((pool : List ℕ) → Meant (now (table .entry)) pool (now (notes .entry)) number (now (uri .entry)) → r ≡ located (prefixOfUri (nodes (now (table .entry)) pool) (now (uri .entry)) (now (path .entry)))) ⌝ }
 {
-    if uri == 0 {
+    if number == 0 {
         return Located::Nothing;
     }
+    let xml = names::is_xml_uri(uri);
     let mut left = path;
     while left.len() > 0 {
         let element = rows::row_at(left, 0);
-        if names_prefix(table, notes, path, element, uri) {
+        if names_prefix(table, notes, path, element, number, xml) {
             return Located::At(rows::place(table, element, rules::PREFIX));
         }
-        let own = own_giving(table, notes, path, element, uri);
+        let own = own_giving(table, notes, path, element, number, xml);
         if rows::has_row(table, own) {
             return Located::At(rows::place(table, own, rules::LOCAL_NAME));
         }
@@ -55,30 +72,18 @@ pub fn prefix_of_uri(table: &[u32], notes: &[u16], path: &[u32], uri: u16) -> Lo
     Located::Nothing
 }
 
-// The URI is the default.
+// The URI is the default: that of the empty prefix, or the empty one where there is none.
 pub fn is_default(table: &[u32], notes: &[u16], path: &[u32], uri: u16) -> bool
     requires { ⌜ Along (now table) (now notes) (now path) ⌝ }
     ensures { λ r. ⌜ ((pool name : List ℕ) → Meant (now (table .entry)) pool (now (notes .entry)) uri name → r ≡ isDefault (nodes (now (table .entry)) pool) name (now (path .entry))) ⌝ }
 {
-    let mut left = path;
-    while left.len() > 0 {
-        let element = rows::row_at(left, 0);
-        if names_default(table, notes, element) {
-            return notes::note(notes, element, notes::URI) == uri;
-        }
-        let own = declarations::own(table, notes, element, 0);
-        if rows::has_row(table, own) {
-            return notes::note(notes, own, notes::VALUE) == uri;
-        }
-        left = &left[1..];
-    }
-    false // no element decides
+    uri_number(table, notes, deciding(table, notes, path, 0)) == uri
 }
 
-// The row that decides the URI of a prefix: an element by its own name, or a declaration.
+// The row that decides the URI of a prefix that is not built in: an element by its own name, or a declaration.
 fn deciding(table: &[u32], notes: &[u16], path: &[u32], prefix: u16) -> Row
     requires { ⌜ Along (now table) (now notes) (now path) ⌝ }
-    ensures { λ r. ⌜ ((pool name : List ℕ) → Meant (now (table .entry)) pool (now (notes .entry)) prefix name → decided (found (nodes (now (table .entry)) pool) (r .0)) ≡ uriOfPrefix (nodes (now (table .entry)) pool) name (now (path .entry))) ⌝ }
+    ensures { λ r. ⌜ ((pool name : List ℕ) → Meant (now (table .entry)) pool (now (notes .entry)) prefix name → Ordinary name → decided (found (nodes (now (table .entry)) pool) (r .0)) ≡ uriOfPrefix (nodes (now (table .entry)) pool) name (now (path .entry))) ⌝ }
 {
     let mut left = path;
     while left.len() > 0 {
@@ -108,7 +113,7 @@ fn uri_number(table: &[u32], notes: &[u16], row: Row) -> u16
         }
         return notes::note(notes, row, notes::URI);
     }
-    0
+    0 // nothing equals empty
 }
 
 // The element's own name answers for the prefix.
@@ -121,32 +126,39 @@ fn names_uri(table: &[u32], notes: &[u16], element: Row, prefix: u16) -> bool
         & (notes::note(notes, element, notes::PREFIX) == prefix)
 }
 
-// The element's own prefix answers for the URI.
-fn names_prefix(table: &[u32], notes: &[u16], path: &[u32], element: Row, uri: u16) -> bool
-    requires { ⌜ Along (now table) (now notes) (now path) ⌝ }
+// The element's own prefix answers for the URI. Here and below, xml says whether the URI is that of xml.
+fn names_prefix(
+    table: &[u32],
+    notes: &[u16],
+    path: &[u32],
+    element: Row,
+    uri: u16,
+    xml: bool,
+) -> bool
+    requires { ⌜ Started (now table) (now notes) (now path) ⌝ }
     requires { ⌜ element .0 < rowCount (now table) ⌝ }
-    ensures { λ r. ⌜ ((pool name : List ℕ) → Meant (now (table .entry)) pool (now (notes .entry)) uri name → r ≡ namesPrefix (nodes (now (table .entry)) pool) (now (path .entry)) name (nodeAt (now (table .entry)) pool (element .0))) ⌝ }
+    ensures { λ r. ⌜ ((pool name : List ℕ) → Meant (now (table .entry)) pool (now (notes .entry)) uri name → xml ≡ sameBytes name xmlUri → r ≡ namesPrefix (nodes (now (table .entry)) pool) (now (path .entry)) name (nodeAt (now (table .entry)) pool (element .0))) ⌝ }
 {
     let named = rows::kind(table, element) == rules::ELEMENT;
     if named & (notes::note(notes, element, notes::URI) == uri) {
         let prefix = notes::note(notes, element, notes::PREFIX);
-        return leads_to(table, notes, path, prefix, uri);
+        return leads_to(table, notes, path, prefix, uri, xml);
     }
     false
 }
 
 // The first of an element's own declarations whose prefix answers for the URI.
-fn own_giving(table: &[u32], notes: &[u16], path: &[u32], element: Row, uri: u16) -> Row
-    requires { ⌜ Along (now table) (now notes) (now path) ⌝ }
+fn own_giving(table: &[u32], notes: &[u16], path: &[u32], element: Row, uri: u16, xml: bool) -> Row
+    requires { ⌜ Started (now table) (now notes) (now path) ⌝ }
     requires { ⌜ Element (now table) (element .0) ⌝ }
-    ensures { λ r. ⌜ ((pool name : List ℕ) → Meant (now (table .entry)) pool (now (notes .entry)) uri name → found (nodes (now (table .entry)) pool) (r .0) ≡ firstThat (givesPrefix (nodes (now (table .entry)) pool) (now (path .entry)) name) (ownDeclarations (nodes (now (table .entry)) pool) (element .0))) ⌝ }
+    ensures { λ r. ⌜ ((pool name : List ℕ) → Meant (now (table .entry)) pool (now (notes .entry)) uri name → xml ≡ sameBytes name xmlUri → found (nodes (now (table .entry)) pool) (r .0) ≡ firstThat (givesPrefix (nodes (now (table .entry)) pool) (now (path .entry)) name) (ownDeclarations (nodes (now (table .entry)) pool) (element .0))) ⌝ }
 {
     let e = element.0;
     let mut first = rules::NONE;
     let mut at = notes::note(notes, Row(e), notes::LATEST);
     while at > 0 {
         let row = scopes::row_at(at);
-        let is = gives_prefix(table, notes, path, row, uri);
+        let is = gives_prefix(table, notes, path, row, uri, xml);
         first = declarations::earlier(is, row.0, first);
         at = notes::note(notes, row, notes::PREVIOUS);
     }
@@ -154,34 +166,35 @@ fn own_giving(table: &[u32], notes: &[u16], path: &[u32], element: Row, uri: u16
 }
 
 // The declaration's prefix answers for the URI.
-fn gives_prefix(table: &[u32], notes: &[u16], path: &[u32], declaration: Row, uri: u16) -> bool
-    requires { ⌜ Along (now table) (now notes) (now path) ⌝ }
+fn gives_prefix(
+    table: &[u32],
+    notes: &[u16],
+    path: &[u32],
+    declaration: Row,
+    uri: u16,
+    xml: bool,
+) -> bool
+    requires { ⌜ Started (now table) (now notes) (now path) ⌝ }
     requires { ⌜ (declaration .0 < rowCount (now table)) × (word (now table) (declaration .0) TYPE ≡ DECLARATION) ⌝ }
-    ensures { λ r. ⌜ ((pool name : List ℕ) → Meant (now (table .entry)) pool (now (notes .entry)) uri name → r ≡ givesPrefix (nodes (now (table .entry)) pool) (now (path .entry)) name (nodeAt (now (table .entry)) pool (declaration .0))) ⌝ }
+    ensures { λ r. ⌜ ((pool name : List ℕ) → Meant (now (table .entry)) pool (now (notes .entry)) uri name → xml ≡ sameBytes name xmlUri → r ≡ givesPrefix (nodes (now (table .entry)) pool) (now (path .entry)) name (nodeAt (now (table .entry)) pool (declaration .0))) ⌝ }
 {
     if notes::note(notes, declaration, notes::VALUE) == uri {
         let prefix = notes::note(notes, declaration, notes::LOCAL_NAME);
-        return leads_to(table, notes, path, prefix, uri);
+        return leads_to(table, notes, path, prefix, uri, xml);
     }
     false
 }
 
-// The prefix is not empty, and its URI, looked up along the whole path, is this one.
-fn leads_to(table: &[u32], notes: &[u16], path: &[u32], prefix: u16, uri: u16) -> bool
-    requires { ⌜ Along (now table) (now notes) (now path) ⌝ }
-    ensures { λ r. ⌜ ((pool name other : List ℕ) → Meant (now (table .entry)) pool (now (notes .entry)) uri name → Meant (now (table .entry)) pool (now (notes .entry)) prefix other → r ≡ (not (isEmpty other) && leadsTo (nodes (now (table .entry)) pool) (now (path .entry)) name other)) ⌝ }
+// The prefix is not empty, and its URI, looked up along the whole path, is this one; that of xml is built in.
+fn leads_to(table: &[u32], notes: &[u16], path: &[u32], prefix: u16, uri: u16, xml: bool) -> bool
+    requires { ⌜ Started (now table) (now notes) (now path) ⌝ }
+    ensures { λ r. ⌜ ((pool name other : List ℕ) → Meant (now (table .entry)) pool (now (notes .entry)) uri name → Meant (now (table .entry)) pool (now (notes .entry)) prefix other → Together xml other name → r ≡ (not (isEmpty other) && leadsTo (nodes (now (table .entry)) pool) (now (path .entry)) name other)) ⌝ }
 {
     if prefix == 0 {
         return false;
     }
+    if xml {
+        return true;
+    }
     uri_number(table, notes, deciding(table, notes, path, prefix)) == uri
-}
-
-// The element decides the default by its own name.
-fn names_default(table: &[u32], notes: &[u16], element: Row) -> bool
-    requires { ⌜ (element .0 < rowCount (now table)) × (NOTES * rowCount (now table) ≤ length (now notes)) ⌝ }
-    ensures { λ r. ⌜ ((pool name : List ℕ) (number : ℕ) → Meant (now (table .entry)) pool (now (notes .entry)) number name → r ≡ namesDefault (nodeAt (now (table .entry)) pool (element .0))) ⌝ }
-{
-    (rows::kind(table, element) == rules::ELEMENT)
-        & (notes::note(notes, element, notes::PREFIX) == 0)
 }

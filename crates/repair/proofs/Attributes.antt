@@ -96,6 +96,7 @@ module _ {table pool notes tops path : List ℕ} {rows bytes names limit free a 
         notXmlnsUri = t .notXmlnsUri;
         notXmlns = t .notXmlns;
         xmlMeansXml = λ x. by-cases (sameBytes (n .uri .bytes) xmlUri) (λ q. q) (λ q. let z : true ≡ false = rw (x, q) at (t .xmlMeansXml) in absurd (true-not-false (sym z) refl));
+        elementXml = λ element. absurd (omega (arith, owned .0, element));
       }
 
   pub top : topOf notes tops a ≡ nearest (prefixAt notes) (h .good .standing .scope) (noteAt notes a noting.PREFIX)

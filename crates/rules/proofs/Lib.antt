@@ -17,3 +17,4 @@ pub mod Unique
 pub mod Bounds
 pub mod Passable
 pub mod Again
+pub mod UriLookup

@@ -9,7 +9,7 @@ use Rattle.rules.specs.declared.Refusal.{Refusal}
 use Rattle.rules.specs.declared.Checked.{Checked}
 use Rattle.rules.specs.declared.Located.{Located}
 use Rattle.rules.specs.declared.Tested.{Tested}
-use Rattle.rules.specs.declared.InScope.{InScope}
+use Rattle.rules.specs.declared.Bound.{Bound}
 use Rattle.rules.specs.declared.Normalized.{Normalized}
 use Rattle.rules.specs.declared.Read.{Read}
 use Rattle.rules.specs.declared.Written.{Written}
@@ -76,35 +76,35 @@ testedYes Tested.Yes = true
 testedYes Tested.No = false
 testedYes (Tested.Refused x) = false
 
-unfoldable pub inScopeNumber : InScope → Number
-inScopeNumber (InScope.At p) = notRefused
-inScopeNumber InScope.Xml = notRefused
-inScopeNumber InScope.Xmlns = notRefused
-inScopeNumber InScope.Nothing = notRefused
-inScopeNumber (InScope.Refused x) = numberOf x
+unfoldable pub boundNumber : Bound → Number
+boundNumber (Bound.At p) = notRefused
+boundNumber Bound.Xml = notRefused
+boundNumber Bound.Xmlns = notRefused
+boundNumber Bound.Nothing = notRefused
+boundNumber (Bound.Refused x) = numberOf x
 
-unfoldable pub inScopePlace : InScope → Place
-inScopePlace (InScope.At p) = p
-inScopePlace InScope.Xml = noPlace
-inScopePlace InScope.Xmlns = noPlace
-inScopePlace InScope.Nothing = noPlace
-inScopePlace (InScope.Refused x) = noPlace
+unfoldable pub boundPlace : Bound → Place
+boundPlace (Bound.At p) = p
+boundPlace Bound.Xml = noPlace
+boundPlace Bound.Xmlns = noPlace
+boundPlace Bound.Nothing = noPlace
+boundPlace (Bound.Refused x) = noPlace
 
--- The URI that a built-in answer of the in-scope URI lookup stands for.
-unfoldable pub builtInUri : InScope → List ℕ
-builtInUri (InScope.At p) = []
-builtInUri InScope.Xml = xmlUri
-builtInUri InScope.Xmlns = xmlnsUri
-builtInUri InScope.Nothing = []
-builtInUri (InScope.Refused x) = []
+-- The URI that a built-in answer of a URI lookup stands for.
+unfoldable pub builtInUri : Bound → List ℕ
+builtInUri (Bound.At p) = []
+builtInUri Bound.Xml = xmlUri
+builtInUri Bound.Xmlns = xmlnsUri
+builtInUri Bound.Nothing = []
+builtInUri (Bound.Refused x) = []
 
 -- The prefix that a built-in answer of the in-scope prefix lookup stands for.
-unfoldable pub builtInPrefix : InScope → List ℕ
-builtInPrefix (InScope.At p) = []
-builtInPrefix InScope.Xml = xmlPrefix
-builtInPrefix InScope.Xmlns = xmlnsPrefix
-builtInPrefix InScope.Nothing = []
-builtInPrefix (InScope.Refused x) = []
+unfoldable pub builtInPrefix : Bound → List ℕ
+builtInPrefix (Bound.At p) = []
+builtInPrefix Bound.Xml = xmlPrefix
+builtInPrefix Bound.Xmlns = xmlnsPrefix
+builtInPrefix Bound.Nothing = []
+builtInPrefix (Bound.Refused x) = []
 
 unfoldable pub normalizedNumber : Normalized → Number
 normalizedNumber (Normalized.Done rows bytes) = notRefused
@@ -138,12 +138,12 @@ locatedFound (Located.At p) = PLACE
 locatedFound Located.Nothing = NOTHING
 locatedFound (Located.Refused x) = NOTHING
 
-unfoldable pub inScopeFound : InScope → ℕ
-inScopeFound (InScope.At p) = PLACE
-inScopeFound InScope.Xml = BUILT-IN-XML
-inScopeFound InScope.Xmlns = BUILT-IN-XMLNS
-inScopeFound InScope.Nothing = NOTHING
-inScopeFound (InScope.Refused x) = NOTHING
+unfoldable pub boundFound : Bound → ℕ
+boundFound (Bound.At p) = PLACE
+boundFound Bound.Xml = BUILT-IN-XML
+boundFound Bound.Xmlns = BUILT-IN-XMLNS
+boundFound Bound.Nothing = NOTHING
+boundFound (Bound.Refused x) = NOTHING
 
 -- The number, rows and pool bytes of a bundle that was read.
 unfoldable pub readNumber : Read → Number

@@ -12,7 +12,7 @@ use Rattle.rules.specs.declared.Place.{Place}
 use Rattle.rules.specs.declared.Refusal.{Refusal}
 use Rattle.rules.specs.declared.Located.{Located}
 use Rattle.rules.specs.declared.Tested.{Tested}
-use Rattle.rules.specs.declared.InScope.{InScope}
+use Rattle.rules.specs.declared.Bound.{Bound}
 
 -- Ancestor elements: the climb from row r along parents, over entity references, as a list of rows, nearest first. Row r
 -- itself comes first if it is an element. A parent is always less than its row, so r + 1 steps are enough.
@@ -71,31 +71,47 @@ hasName element = eqb (element .type) ELEMENT
 abbrev pub unlessEmpty : Field → Option Field
 unlessEmpty value = cond (isEmpty (value .bytes)) none (some value)
 
--- The bytes found; nothing has none.
-abbrev pub bytesOf : Option Field → List ℕ
-bytesOf none = []
-bytesOf (some found) = found .bytes
+-- What a lookup finds that knows the built-ins: a field of a row, a built-in, or nothing.
+pub data Binding : Type 0 where
+  declared : Field → Binding
+  builtInXml : Binding
+  builtInXmlns : Binding
+  unbound : Binding
 
-abbrev pub declaredValueOr : Option Node → Option Field → Option Field
+abbrev pub orUnbound : Option Field → Binding
+orUnbound none = unbound
+orUnbound (some found) = declared found
+
+-- The URI found; nothing has no bytes, so it equals the empty one.
+abbrev pub uriBytes : Binding → List ℕ
+uriBytes (declared found) = found .bytes
+uriBytes builtInXml = xmlUri
+uriBytes builtInXmlns = xmlnsUri
+uriBytes unbound = []
+
+abbrev pub declaredValueOr : Option Node → Binding → Binding
 declaredValueOr none further = further
-declaredValueOr (some d) further = unlessEmpty (d .value)
+declaredValueOr (some d) further = orUnbound (unlessEmpty (d .value))
 
 -- The element has a URI, and its prefix equals the query.
 abbrev pub namesUri : List ℕ → Node → Bool
 namesUri prefix element = hasName element && not (isEmpty (element .uri .bytes)) && sameBytes (element .prefix .bytes) prefix
 
--- URI of a prefix, over the elements from the start element outward. At each: if it has a URI and its prefix equals the
--- query, that URI. Else if it has a declaration of that prefix, its value, or nothing when the value is empty. Else the next
--- ancestor element.
-unfoldable pub uriOfPrefix : List Node → List ℕ → List ℕ → Option Field
-uriOfPrefix ns prefix [] = none
+-- URI of a prefix, over the elements from the start element outward, as the DOM Living Standard locates a namespace. At each:
+-- xml and xmlns are built in. Else if it has a URI and its prefix equals the query, that URI. Else if it has a declaration of
+-- that prefix, its value, or nothing when the value is empty. Else the next ancestor element. Without a start element nothing
+-- is found, built-ins included.
+unfoldable pub uriOfPrefix : List Node → List ℕ → List ℕ → Binding
+uriOfPrefix ns prefix [] = unbound
 uriOfPrefix ns prefix (e ∷ outward) =
-    cond (namesUri prefix (node ns e)) (some (node ns e .uri))
-    (declaredValueOr (firstThat (declares prefix) (ownDeclarations ns e)) (uriOfPrefix ns prefix outward))
+    cond (sameBytes prefix xmlPrefix) builtInXml
+    (cond (sameBytes prefix xmlnsPrefix) builtInXmlns
+    (cond (namesUri prefix (node ns e)) (declared (node ns e .uri))
+    (declaredValueOr (firstThat (declares prefix) (ownDeclarations ns e)) (uriOfPrefix ns prefix outward))))
 
--- The prefix's URI, looked up from the start element, is this one.
+-- The prefix's URI, looked up from the start element, is this one; nothing equals empty.
 unfoldable pub leadsTo : List Node → List ℕ → List ℕ → List ℕ → Bool
-leadsTo ns start uri prefix = sameBytes (bytesOf (uriOfPrefix ns prefix start)) uri
+leadsTo ns start uri prefix = sameBytes (uriBytes (uriOfPrefix ns prefix start)) uri
 
 abbrev pub declaredPrefixOr : Option Node → Option Field → Option Field
 declaredPrefixOr none further = further
@@ -128,21 +144,9 @@ prefixAmong ns start uri (e ∷ outward) =
 unfoldable pub prefixOfUri : List Node → List ℕ → List ℕ → Option Field
 prefixOfUri ns uri start = cond (isEmpty uri) none (prefixAmong ns start uri start)
 
-abbrev pub valueEqualsOr : List ℕ → Option Node → Bool → Bool
-valueEqualsOr uri none further = further
-valueEqualsOr uri (some d) further = sameBytes (d .value .bytes) uri
-
--- The element decides by its own name: it has no prefix.
-abbrev pub namesDefault : Node → Bool
-namesDefault element = hasName element && isEmpty (element .prefix .bytes)
-
--- Is this the default? At each element outward: with no prefix, yes exactly if its URI equals the query. Else with a default
--- declaration, yes exactly if its value equals the query. Else outward; at the end, no. Empty equals empty.
+-- Is this the default? Yes exactly if the URI of the empty prefix equals the query, where nothing equals empty.
 unfoldable pub isDefault : List Node → List ℕ → List ℕ → Bool
-isDefault ns uri [] = false
-isDefault ns uri (e ∷ outward) =
-    cond (namesDefault (node ns e)) (sameBytes (node ns e .uri .bytes) uri)
-    (valueEqualsOr uri (firstThat (declares []) (ownDeclarations ns e)) (isDefault ns uri outward))
+isDefault ns uri start = leadsTo ns start uri []
 
 -- What is in scope at an element: the declarations of the elements outward, nearest element first, in row order within one.
 unfoldable pub scopeOf : List Node → List ℕ → List Node
@@ -150,17 +154,6 @@ scopeOf ns elements = gathered (ownDeclarations ns) elements
 
 unfoldable pub scopeAt : List Node → ℕ → List Node
 scopeAt ns e = scopeOf ns (elementsFrom ns e)
-
--- What an in-scope lookup finds: a field of a declaration, a built-in, or none.
-pub data Binding : Type 0 where
-  declared : Field → Binding
-  builtInXml : Binding
-  builtInXmlns : Binding
-  unbound : Binding
-
-abbrev pub orUnbound : Option Field → Binding
-orUnbound none = unbound
-orUnbound (some found) = declared found
 
 abbrev pub valueOf : Option Node → Option Field
 valueOf none = none
@@ -173,13 +166,6 @@ inScopeUri scope prefix =
     cond (sameBytes prefix xmlPrefix) builtInXml
     (cond (sameBytes prefix xmlnsPrefix) builtInXmlns
     (orUnbound (valueOf (firstThat (declares prefix) scope))))
-
--- The URI that the in-scope URI lookup found; none has no bytes.
-abbrev pub uriBytes : Binding → List ℕ
-uriBytes (declared found) = found .bytes
-uriBytes builtInXml = xmlUri
-uriBytes builtInXmlns = xmlnsUri
-uriBytes unbound = []
 
 -- The declaration is of a non-empty prefix, has this value, and its prefix has this in-scope URI.
 unfoldable pub serves : List Node → List ℕ → Node → Bool
@@ -207,11 +193,11 @@ abbrev pub located : Option Field → Located
 located none = Located.Nothing
 located (some found) = Located.At (place found)
 
-abbrev pub bound : Binding → InScope
-bound (declared found) = InScope.At (place found)
-bound builtInXml = InScope.Xml
-bound builtInXmlns = InScope.Xmlns
-bound unbound = InScope.Nothing
+abbrev pub bound : Binding → Bound
+bound (declared found) = Bound.At (place found)
+bound builtInXml = Bound.Xml
+bound builtInXmlns = Bound.Xmlns
+bound unbound = Bound.Nothing
 
 abbrev pub yesOrNo : Bool → Tested
 yesOrNo true = Tested.Yes
@@ -235,10 +221,10 @@ unfoldable pub lookupRefusal : List ℕ → List ℕ → ℕ → Option Refusal
 lookupRefusal table pool r =
     firstRefusal (checkRefusal table pool ∷ refusedIf (leb (rowCount table) r) Refusal.NoSuchRow ∷ [])
 
-unfoldable pub uriOfPrefixAt : List ℕ → List ℕ → ℕ → List ℕ → Located
+unfoldable pub uriOfPrefixAt : List ℕ → List ℕ → ℕ → List ℕ → Bound
 uriOfPrefixAt table pool r prefix =
-    unlessRefused (lookupRefusal table pool r) Located.Refused
-    (located (uriOfPrefix (nodes table pool) prefix (lookupElements (nodes table pool) r)))
+    unlessRefused (lookupRefusal table pool r) Bound.Refused
+    (bound (uriOfPrefix (nodes table pool) prefix (lookupElements (nodes table pool) r)))
 
 unfoldable pub prefixOfUriAt : List ℕ → List ℕ → ℕ → List ℕ → Located
 prefixOfUriAt table pool r uri =
@@ -250,19 +236,27 @@ isDefaultAt table pool r uri =
     unlessRefused (lookupRefusal table pool r) Tested.Refused
     (yesOrNo (isDefault (nodes table pool) uri (lookupElements (nodes table pool) r)))
 
-unfoldable pub inScopeUriAt : List ℕ → List ℕ → ℕ → List ℕ → InScope
+unfoldable pub inScopeUriAt : List ℕ → List ℕ → ℕ → List ℕ → Bound
 inScopeUriAt table pool r prefix =
     let elements = lookupElements (nodes table pool) r in
-    unlessRefused (lookupRefusal table pool r) InScope.Refused
+    unlessRefused (lookupRefusal table pool r) Bound.Refused
     (bound (ifStarted elements (inScopeUri (scopeOf (nodes table pool) elements) prefix)))
 
-unfoldable pub inScopePrefixAt : List ℕ → List ℕ → ℕ → List ℕ → InScope
+unfoldable pub inScopePrefixAt : List ℕ → List ℕ → ℕ → List ℕ → Bound
 inScopePrefixAt table pool r uri =
     let elements = lookupElements (nodes table pool) r in
-    unlessRefused (lookupRefusal table pool r) InScope.Refused
+    unlessRefused (lookupRefusal table pool r) Bound.Refused
     (bound (ifStarted elements (inScopePrefix (scopeOf (nodes table pool) elements) uri)))
 
--- The part of the pool that an answer of the first two lookups stands for; empty for nothing and for a refusal.
+-- The part of the pool that an answer for a URI stands for; empty for a built-in, for nothing and for a refusal.
+unfoldable pub boundPart : List ℕ → Bound → List ℕ
+boundPart pool (Bound.At found) = part pool (found .offset .0) (found .length)
+boundPart pool Bound.Xml = []
+boundPart pool Bound.Xmlns = []
+boundPart pool Bound.Nothing = []
+boundPart pool (Bound.Refused x) = []
+
+-- The part of the pool that an answer for a prefix stands for; empty for nothing and for a refusal.
 unfoldable pub locatedPart : List ℕ → Located → List ℕ
 locatedPart pool (Located.At found) = part pool (found .offset .0) (found .length)
 locatedPart pool Located.Nothing = []

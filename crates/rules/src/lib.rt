@@ -126,7 +126,7 @@ pub enum Checked {
     Refused(Refusal),
 }
 
-// What the lookups of a URI and of a prefix find: a part of the pool, or nothing.
+// What the lookup of a prefix finds: a part of the pool, or nothing.
 pub enum Located {
     At(Place),
     Nothing,
@@ -140,8 +140,8 @@ pub enum Tested {
     Refused(Refusal),
 }
 
-// What the in-scope lookups find: a part of the pool, a built-in binding, or none.
-pub enum InScope {
+// What the lookup of a URI and the in-scope lookups find: a part of the pool, a built-in, or nothing.
+pub enum Bound {
     At(Place),
     Xml,
     Xmlns,

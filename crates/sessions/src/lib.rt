@@ -5,8 +5,8 @@ ghost use lib.ListN.{length};
 ghost use Rattle.bundles.specs.Operations.{bundleRead, bundleChecked, bundleUriOfPrefix, bundlePrefixOfUri, bundleIsDefault, bundleInScopeUri, bundleInScopePrefix, bundleNormalized};
 ghost use Rattle.markup.specs.Writing.{bundleText};
 use bundles::Opened;
+use rules::Bound;
 use rules::Checked;
-use rules::InScope;
 use rules::Located;
 use rules::Read;
 use rules::Row;
@@ -28,7 +28,7 @@ pub fn check(bundle: &[u8]) -> Checked
 }
 
 // The URI of a prefix at a row; the empty prefix is the default.
-pub fn uri_of_prefix(bundle: &[u8], row: Row, prefix: &[u8]) -> Located
+pub fn uri_of_prefix(bundle: &[u8], row: Row, prefix: &[u8]) -> Bound
     ensures { λ r. ⌜ r ≡ bundleUriOfPrefix (now (bundle .entry)) (row .0) (now (prefix .entry)) ⌝ }
 {
     let mut table = [buffers::UNREAD; WORDS];
@@ -39,7 +39,7 @@ pub fn uri_of_prefix(bundle: &[u8], row: Row, prefix: &[u8]) -> Located
             row,
             prefix,
         ),
-        Opened::Refused(x) => Located::Refused(x),
+        Opened::Refused(x) => Bound::Refused(x),
     }
 }
 
@@ -76,7 +76,7 @@ pub fn is_default(bundle: &[u8], row: Row, uri: &[u8]) -> Tested
 }
 
 // The in-scope URI of a prefix at a row: by declarations alone.
-pub fn in_scope_uri(bundle: &[u8], row: Row, prefix: &[u8]) -> InScope
+pub fn in_scope_uri(bundle: &[u8], row: Row, prefix: &[u8]) -> Bound
     ensures { λ r. ⌜ r ≡ bundleInScopeUri (now (bundle .entry)) (row .0) (now (prefix .entry)) ⌝ }
 {
     let mut table = [buffers::UNREAD; WORDS];
@@ -87,12 +87,12 @@ pub fn in_scope_uri(bundle: &[u8], row: Row, prefix: &[u8]) -> InScope
             row,
             prefix,
         ),
-        Opened::Refused(x) => InScope::Refused(x),
+        Opened::Refused(x) => Bound::Refused(x),
     }
 }
 
 // An in-scope prefix of a URI at a row: by declarations alone.
-pub fn in_scope_prefix(bundle: &[u8], row: Row, uri: &[u8]) -> InScope
+pub fn in_scope_prefix(bundle: &[u8], row: Row, uri: &[u8]) -> Bound
     ensures { λ r. ⌜ r ≡ bundleInScopePrefix (now (bundle .entry)) (row .0) (now (uri .entry)) ⌝ }
 {
     let mut table = [buffers::UNREAD; WORDS];
@@ -103,7 +103,7 @@ pub fn in_scope_prefix(bundle: &[u8], row: Row, uri: &[u8]) -> InScope
             row,
             uri,
         ),
-        Opened::Refused(x) => InScope::Refused(x),
+        Opened::Refused(x) => Bound::Refused(x),
     }
 }
 

@@ -13,7 +13,7 @@ use Rattle.declarations.specs.Along.{Along}
 use Rattle.declarations.specs.Meant.{Meant}
 use Rattle.declarations.proofs.Rows.{found-none}
 use Rattle.declarations.proofs.Path.{own-declaration}
-use Rattle.outward.specs.Deciding.{decided}
+use Rattle.outward.specs.Deciding.{Ordinary, decided}
 use Rattle.outward.proofs.Decided.{declared-decides, named-decides}
 use Rattle.outward.proofs.Left.{Left, left-first, left-element, along-next, left-own, left-declared, left-next, left-end, uriLookup}
 use Rattle.outward.proofs.deciding.Statement.{statement}
@@ -21,13 +21,13 @@ use Rattle.outward.proofs.deciding.Tie as tie
 
 abbrev Inv-loop : tie.InvT-loop
 Inv-loop table notes path prefix left₀ left =
-    Along table notes left × ((pool name : List ℕ) → Meant table pool notes prefix name → Left table pool path (uriLookup (nodes table pool) name) left)
+    Along table notes left × ((pool name : List ℕ) → Meant table pool notes prefix name → (ordinary : Ordinary name) → Left table pool path (uriLookup (nodes table pool) name ordinary) left)
 
 abbrev μ-loop : tie.MeasureT-loop
 μ-loop table notes path prefix left₀ left = length left
 
 loop-holds : tie.Need-loop-holds Inv-loop μ-loop
-loop-holds c = (c .before .before .before .pre, λ pool name meant. left-first _ _ _ _)
+loop-holds c = (c .before .before .before .pre, λ pool name meant ordinary. left-first _ _ _ _)
 
 row-at-requires : tie.Need-row-at-requires Inv-loop μ-loop
 row-at-requires c κs = c .loop-test .taken
@@ -42,22 +42,22 @@ has-row-requires : tie.Need-has-row-requires Inv-loop μ-loop
 has-row-requires c κs = search needs
 
 returns : tie.Need-returns Inv-loop μ-loop
-returns c pool name meant =
+returns c pool name meant ordinary =
     let l = c .before .before .before .before .before .before in
     let element = left-element _ _ _ (l .loop .inv .0) (c .before .before .before .before .before .loop-test .taken) _ (c .before .before .before .before .row-at .ensures) in
     let named = sym (c .before .before .before .names-uri .ensures pool name meant) ∙ c .if1 .taken in
     named-decides _ pool _ (element .within) name named
-    ∙ left-own _ pool _ _ _ (l .loop .inv .1 pool name meant) (c .before .before .before .before .before .loop-test .taken) _ (c .before .before .before .before .row-at .ensures) element named
+    ∙ left-own _ pool _ _ _ (l .loop .inv .1 pool name meant ordinary) (c .before .before .before .before .before .loop-test .taken) _ (c .before .before .before .before .row-at .ensures) element named
 
 returns-2 : tie.Need-returns-2 Inv-loop μ-loop
-returns-2 c pool name meant =
+returns-2 c pool name meant ordinary =
     let l = c .before .before .before .before .before .before .before in
     let element = left-element _ _ _ (l .loop .inv .0) (c .before .before .before .before .before .before .loop-test .taken) _ (c .before .before .before .before .before .row-at .ensures) in
     let other = sym (c .before .before .before .before .names-uri .ensures pool name meant) ∙ c .before .if1 .left in
     let within = ltb-true _ _ (sym (c .before .before .has-row .ensures) ∙ c .if2 .taken) in
     let own = c .before .before .before .own .ensures pool name meant in
     declared-decides _ pool _ within (own-declaration _ pool _ within (declares name) _ own)
-    ∙ left-declared _ pool _ _ _ (l .loop .inv .1 pool name meant) (c .before .before .before .before .before .before .loop-test .taken) _ (c .before .before .before .before .before .row-at .ensures) element other _ own within
+    ∙ left-declared _ pool _ _ _ (l .loop .inv .1 pool name meant ordinary) (c .before .before .before .before .before .before .loop-test .taken) _ (c .before .before .before .before .before .row-at .ensures) element other _ own within
 
 sub-left : tie.Need-sub-left Inv-loop μ-loop
 sub-left c = omega arith
@@ -76,14 +76,14 @@ loop-again c =
     let l = c .before .before .before .before .before .before .before .before in
     let element = left-element _ _ _ (l .loop .inv .0) (c .before .before .before .before .before .before .before .loop-test .taken) _ (c .before .before .before .before .before .before .row-at .ensures) in (
       along-next _ _ _ (l .loop .inv .0),
-      λ pool name meant.
-          left-next _ pool _ _ _ (l .loop .inv .1 pool name meant) (c .before .before .before .before .before .before .before .loop-test .taken) _ (c .before .before .before .before .before .before .row-at .ensures) element (sym (c .before .before .before .before .before .names-uri .ensures pool name meant) ∙ c .before .before .if1 .left) _ (c .before .before .before .before .own .ensures pool name meant) (ltb-false _ _ (sym (c .before .before .before .has-row .ensures) ∙ c .before .if2 .left)),
+      λ pool name meant ordinary.
+          left-next _ pool _ _ _ (l .loop .inv .1 pool name meant ordinary) (c .before .before .before .before .before .before .before .loop-test .taken) _ (c .before .before .before .before .before .before .row-at .ensures) element (sym (c .before .before .before .before .before .names-uri .ensures pool name meant) ∙ c .before .before .if1 .left) _ (c .before .before .before .before .own .ensures pool name meant) (ltb-false _ _ (sym (c .before .before .before .has-row .ensures) ∙ c .before .if2 .left)),
     )
 
 returns-3 : tie.Need-returns-3 Inv-loop μ-loop
-returns-3 c pool name meant =
+returns-3 c pool name meant ordinary =
     let few = c .before .before .before .before .before .pre .ready .few in
-    ap decided (found-none _ pool NONE (omega (arith, few))) ∙ left-end _ pool _ _ _ (c .before .loop .inv .1 pool name meant) (omega arith)
+    ap decided (found-none _ pool NONE (omega (arith, few))) ∙ left-end _ pool _ _ _ (c .before .loop .inv .1 pool name meant ordinary) (omega arith)
 
 pub deciding-spec : {M : Type 1} → statement M
 deciding-spec =

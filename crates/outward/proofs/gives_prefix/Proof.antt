@@ -3,28 +3,29 @@
 use native.Mathlib.Omega.{arith}
 use mathlib.Core.Path.{_∙_}
 use Rattle.declarations.proofs.Meanings.{local-names, meant-too}
-use Rattle.outward.proofs.Tests.{gives-by, gives-other}
+use Rattle.outward.proofs.Tests.{gives-by, gives-together, gives-other}
 use Rattle.outward.proofs.gives_prefix.Statement.{statement}
 use Rattle.outward.proofs.gives_prefix.Tie as tie
 
 note-requires : tie.Need-note-requires
-note-requires c κs = let s = c .before .before .before in omega (arith, s .pre .0 .ready .noted, s .pre .1 .0)
+note-requires c κs = let s = c .before .before .before in omega (arith, s .pre .0 .along .ready .noted, s .pre .1 .0)
 
 note-requires-2 : tie.Need-note-requires-2
-note-requires-2 c κs = let s = c .before .before .before .before .before in omega (arith, s .pre .0 .ready .noted, s .pre .1 .0)
+note-requires-2 c κs = let s = c .before .before .before .before .before in omega (arith, s .pre .0 .along .ready .noted, s .pre .1 .0)
 
 leads-to-requires : tie.Need-leads-to-requires
 leads-to-requires c κs = c .before .before .before .before .before .before .pre .0
 
 returns : tie.Need-returns
-returns c pool name meant =
+returns c pool name meant xml =
     let s = c .before .before .before .before .before .before .before in
     let own = local-names meant _ (s .pre .1 .0) in
-    c .leads-to .ensures pool name _ meant (rw (← c .before .note2 .ensures) at (meant-too meant own))
+    let together = gives-together meant _ (s .pre .1 .0) (s .pre .1 .1) (s .args .path .now) _ (c .before .before .before .note .ensures) (c .before .before .if1 .taken) _ xml in
+    c .leads-to .ensures pool name _ meant (rw (← c .before .note2 .ensures) at (meant-too meant own)) together
     ∙ gives-by meant _ (s .pre .1 .0) (s .pre .1 .1) (s .args .path .now) _ (c .before .before .before .note .ensures) (c .before .before .if1 .taken)
 
 returns-2 : tie.Need-returns-2
-returns-2 c pool name meant =
+returns-2 c pool name meant xml =
     let s = c .before .before .before .before .before in
     gives-other meant _ (s .pre .1 .0) (s .pre .1 .1) (s .args .path .now) _ (c .before .note .ensures) (c .if1 .left)
 
