@@ -408,19 +408,23 @@ noemathu_refusal noemathu_check(const uint8_t *bundle, size_t length);
 
 /* The URI that a prefix means at a row, by the names and declarations of the
    elements there and outward; the empty prefix is the default namespace. Found:
-   a place or nothing; the lookup of DOM Level 3, for which `xml` and `xmlns` are
-   like any prefix. Refusals: 30 to 32, 1 to 8, 12 to 14. */
+   a place, nothing, or for `xml` and `xmlns` a built-in, whatever is declared:
+   see noemathu_uri for the bytes. This is lookupNamespaceURI of browsers.
+   Refusals: 30 to 32, 1 to 8, 12 to 14. */
 noemathu_found noemathu_uri_of_prefix(const uint8_t *bundle, size_t length, uint32_t row,
                                       const uint8_t *prefix, size_t prefix_length);
 
 /* A prefix that means a URI at a row; never the empty one. Found: a place or
-   nothing. Refusals: 30 to 32, 1 to 8, 12 to 14. */
+   nothing, never a built-in. Other than lookupPrefix of browsers, it answers no
+   prefix that means another URI at the row. Refusals: 30 to 32, 1 to 8, 12 to
+   14. */
 noemathu_found noemathu_prefix_of_uri(const uint8_t *bundle, size_t length, uint32_t row,
                                       const uint8_t *uri, size_t uri_length);
 
-/* Whether a URI is the default namespace at a row. The empty URI is, where an
-   element without prefix and URI or an empty default declaration is met first;
-   where nothing decides, no URI is. Refusals: 30 to 32, 1 to 8, 12 to 14. */
+/* Whether a URI is the default namespace at a row: whether it is the URI of the
+   empty prefix, where nothing equals the empty URI. So the empty URI is wherever
+   that finds nothing. This is isDefaultNamespace of browsers. A refusal says no.
+   Refusals: 30 to 32, 1 to 8, 12 to 14. */
 noemathu_tested noemathu_is_default(const uint8_t *bundle, size_t length, uint32_t row,
                                     const uint8_t *uri, size_t uri_length);
 
@@ -522,6 +526,26 @@ static inline const uint8_t *noemathu_pool(const uint8_t *bundle)
 static inline const uint8_t *noemathu_bytes(const uint8_t *bundle, noemathu_place place)
 {
     return noemathu_pool(bundle) + place.offset;
+}
+
+/* The URI that a lookup of a URI in this bundle has found, and its length: the
+   bytes of a place or of a built-in; NULL and 0 for nothing and for a refusal. */
+static inline const uint8_t *noemathu_uri(const uint8_t *bundle, noemathu_found found, size_t *length)
+{
+    switch (found.found) {
+    case NOEMATHU_PLACE:
+        *length = found.place.length;
+        return noemathu_bytes(bundle, found.place);
+    case NOEMATHU_BUILT_IN_XML:
+        *length = sizeof NOEMATHU_XML_URI - 1;
+        return (const uint8_t *)NOEMATHU_XML_URI;
+    case NOEMATHU_BUILT_IN_XMLNS:
+        *length = sizeof NOEMATHU_XMLNS_URI - 1;
+        return (const uint8_t *)NOEMATHU_XMLNS_URI;
+    default:
+        *length = 0;
+        return NULL;
+    }
 }
 
 /* A word, 0 to 9, of one of its rows. */

@@ -928,6 +928,53 @@ static void beyond_the_limits(void)
 
 /* ---- the helpers of the header */
 
+/* A lookup of a URI found it so. */
+static bool is_uri(const uint8_t *bundle, noemathu_found found, uint32_t kind, const char *uri)
+{
+    size_t length = 1;
+    const uint8_t *bytes = noemathu_uri(bundle, found, &length);
+    bool placed = kind == NOEMATHU_PLACE || (found.place.offset == 0 && found.place.length == 0);
+    return is_refusal(found.refusal, 0, 0) && found.found == kind && placed && length == strlen(uri) &&
+           (uri[0] ? memcmp(bytes, uri, length) == 0 : bytes == NULL);
+}
+
+/* The built-ins at an element that declares xml, and at a fragment, which has no start element. */
+static void built_ins(void)
+{
+    uint32_t table[30];
+    uint8_t pool[64], bundle[NOEMATHU_BUNDLE_BYTES(3, 64)];
+    size_t held = 0;
+    noemathu_row row = {.type = NOEMATHU_ELEMENT, .parent = NOEMATHU_NONE};
+    row.local_name = noemathu_put_bytes(pool, sizeof pool, &held, "a", 1);
+    noemathu_put_row(table, 0, row);
+    row = (noemathu_row){.type = NOEMATHU_DECLARATION, .parent = 0};
+    row.local_name = noemathu_put_bytes(pool, sizeof pool, &held, "xml", 3);
+    row.value = noemathu_put_bytes(pool, sizeof pool, &held, NOEMATHU_XML_URI, strlen(NOEMATHU_XML_URI));
+    noemathu_put_row(table, 1, row);
+    noemathu_put_row(table, 2, (noemathu_row){.type = NOEMATHU_FRAGMENT, .parent = NOEMATHU_NONE});
+    noemathu_used used = noemathu_write(table, 30, pool, held, bundle, sizeof bundle);
+    EXPECT(is_refusal(used.refusal, 0, 0));
+
+    const uint8_t *xml = (const uint8_t *)"xml", *xmlns = (const uint8_t *)"xmlns", *u = (const uint8_t *)"U";
+    const uint8_t *xml_uri = (const uint8_t *)NOEMATHU_XML_URI, *xmlns_uri = (const uint8_t *)NOEMATHU_XMLNS_URI;
+    for (uint32_t asked = 0; asked < 2; asked++) {
+        EXPECT(is_uri(bundle, noemathu_uri_of_prefix(bundle, used.bytes, asked, xml, 3), NOEMATHU_BUILT_IN_XML, NOEMATHU_XML_URI));
+        EXPECT(is_uri(bundle, noemathu_uri_of_prefix(bundle, used.bytes, asked, xmlns, 5), NOEMATHU_BUILT_IN_XMLNS, NOEMATHU_XMLNS_URI));
+        EXPECT(is_uri(bundle, noemathu_uri_of_prefix(bundle, used.bytes, asked, xmlns, 4), NOEMATHU_NOTHING, ""));
+        EXPECT(is_uri(bundle, noemathu_prefix_of_uri(bundle, used.bytes, asked, xml_uri, 36), NOEMATHU_PLACE, "xml"));
+        EXPECT(is_nothing(noemathu_prefix_of_uri(bundle, used.bytes, asked, xmlns_uri, 29), 0, 0));
+        EXPECT(noemathu_is_default(bundle, used.bytes, asked, NULL, 0).yes);
+        EXPECT(!noemathu_is_default(bundle, used.bytes, asked, xml_uri, 36).yes);
+    }
+    EXPECT(is_uri(bundle, noemathu_uri_of_prefix(bundle, used.bytes, 2, xml, 3), NOEMATHU_NOTHING, ""));
+    EXPECT(is_uri(bundle, noemathu_uri_of_prefix(bundle, used.bytes, 2, xmlns, 5), NOEMATHU_NOTHING, ""));
+    EXPECT(is_nothing(noemathu_prefix_of_uri(bundle, used.bytes, 2, xml_uri, 36), 0, 0));
+    EXPECT(noemathu_is_default(bundle, used.bytes, 2, NULL, 0).yes);
+    EXPECT(!noemathu_is_default(bundle, used.bytes, 2, u, 1).yes);
+    noemathu_tested refused = noemathu_is_default(bundle, used.bytes, 3, NULL, 0);
+    EXPECT(is_refusal(refused.refusal, 8, 0) && !refused.yes);
+}
+
 static void helpers(void)
 {
     const uint32_t numbers[] = {0, 1, 2, 3, 4, 5, 6, 7, 8, 9, 10, 11, 12, 13, 14, 20, 21, 22, 23, 24, 30, 31, 32, 33, 15};
@@ -1054,6 +1101,7 @@ int main(void)
     every_header_byte();
     every_output_size();
     every_question();
+    built_ins();
     overlapping_inputs();
     refused_tables();
     fields();

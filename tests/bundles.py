@@ -105,16 +105,12 @@ def check(bundle):
 
 
 def found(bundle, lookup, row, query):
-    """What a lookup that knows no built-ins finds."""
+    """What a lookup finds that answers no built-in."""
     try:
         *refusal, offset, length = lookup(*split(bundle), row, query)
     except Refused as refused:
         return (*refused.refusal, FOUND["none"], 0, 0)
     return (*refusal, FOUND["place" if length else "none"], offset, length)
-
-
-def uri_of_prefix(bundle, row, query):
-    return found(bundle, reading.uri_of_prefix, row, query)
 
 
 def prefix_of_uri(bundle, row, query):
@@ -128,7 +124,7 @@ def is_default(bundle, row, query):
         return (*refused.refusal, False)
 
 
-def found_in_scope(bundle, lookup, row, query):
+def found_or_built_in(bundle, lookup, row, query):
     """What a lookup finds that answers a place, a built-in or none; the place is 0, 0 for the last two."""
     try:
         *refusal, kind, offset, length = lookup(*split(bundle), row, query)
@@ -137,12 +133,16 @@ def found_in_scope(bundle, lookup, row, query):
     return (*refusal, FOUND[kind], offset, length)
 
 
+def uri_of_prefix(bundle, row, query):
+    return found_or_built_in(bundle, reading.uri_of_prefix, row, query)
+
+
 def in_scope_uri(bundle, row, query):
-    return found_in_scope(bundle, reading.in_scope_uri, row, query)
+    return found_or_built_in(bundle, reading.in_scope_uri, row, query)
 
 
 def in_scope_prefix(bundle, row, query):
-    return found_in_scope(bundle, reading.in_scope_prefix, row, query)
+    return found_or_built_in(bundle, reading.in_scope_prefix, row, query)
 
 
 # Outputs. Success answers how much of each output is used, tables in rows, a refusal 0. Refused outputs and room left over

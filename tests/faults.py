@@ -23,9 +23,9 @@ def element_by_uri_lookup():
     """An element's scope is tested with the URI lookup, so that its own name answers first."""
     def repair_element(tree, element):
         if element.uri.text != b"":
-            if reading.uri_from(tree, element, element.prefix.text).text != element.uri.text:
+            if reading.uri_from(tree, element, element.prefix.text).field.text != element.uri.text:
                 reading.declare(tree, element, element.prefix, element.uri)
-        elif reading.uri_from(tree, element, b"").text != b"":
+        elif reading.uri_from(tree, element, b"").field.text != b"":
             reading.declare(tree, element, reading.EMPTY, reading.EMPTY)
     reading.repair_element = repair_element
 
@@ -54,9 +54,50 @@ def bound_prefix_declared():
     reading.repair_attribute = repair_attribute
 
 
-def level1_name_counts():
-    """The default test takes a DOM Level 1 element for one without a URI."""
-    reading.has_own_name = lambda element: True
+def declared_xml():
+    """The URI lookup answers `xml` by what says it, as any other prefix."""
+    right = reading.uri_from
+
+    def uri_from(tree, start, prefix):
+        built_in = reading.BUILT_IN_URIS
+        reading.BUILT_IN_URIS = {name: bound for name, bound in built_in.items() if name != b"xml"}
+        found = right(tree, start, prefix)
+        reading.BUILT_IN_URIS = built_in
+        return found
+    reading.uri_from = uri_from
+
+
+def xmlns_not_built_in():
+    """The URI lookup knows no `xmlns`."""
+    right = reading.uri_from
+    reading.uri_from = lambda tree, start, prefix: (
+        reading.NOTHING if prefix == b"xmlns" else right(tree, start, prefix))
+
+
+def built_in_without_start():
+    """The URI lookup knows the built-ins without a start element too."""
+    right = reading.uri_from
+    reading.uri_from = lambda tree, start, prefix: (
+        reading.BUILT_IN_URIS.get(prefix) or right(tree, start, prefix))
+
+
+def nothing_is_no_default():
+    """Where the empty prefix has no URI, the default test says no, also to the empty query."""
+    reading.default_from = lambda tree, start, uri: (
+        reading.uri_from(tree, start, b"").field.text == uri != b"")
+
+
+def unprefixed_decides():
+    """An element without a prefix decides the default test, also where it has no URI."""
+    def default_from(tree, start, uri):
+        for element in reading.outward(tree, start):
+            if reading.has_own_name(element) and element.prefix.text == b"":
+                return element.uri.text == uri
+            declaration = reading.declaration_of(tree, element, b"")
+            if declaration is not None:
+                return declaration.value.text == uri
+        return uri == b""
+    reading.default_from = default_from
 
 
 def names_by_offset():
@@ -461,7 +502,8 @@ def declared_values_not_tried():
 
 FAULTS = {fault.__name__: fault for fault in (
     shadowed_prefix, shadowed_own_prefix, element_by_uri_lookup, default_serves_attribute, bound_prefix_declared,
-    level1_name_counts, names_by_offset, fields_before_structure, offset_before_pool, empty_in_first_pass,
+    declared_xml, xmlns_not_built_in, built_in_without_start, nothing_is_no_default, unprefixed_decides,
+    names_by_offset, fields_before_structure, offset_before_pool, empty_in_first_pass,
     pool_before_offsets, fields_after_names, encoding_after_names, encoding_with_empty, surrogates_accepted,
     values_not_decoded, length_word, last_field, bytes_before_rows, shared_bytes, big_endian, zero_byte_not_seen,
     bytes_after, version_before_mark, cut_is_lengths, limits_by_lengths, room_before_limits, read_bytes_before_rows,

@@ -4,7 +4,7 @@ them, in its order and words, written without a look at the library. tests/compa
 A table is a sequence of words, a pool a string of bytes, a row a number, a query a string of bytes.
 
     check(table, pool) -> (number, row, word)
-    uri_of_prefix(table, pool, row, query) -> (number, row, word, offset, length)
+    uri_of_prefix(table, pool, row, query) -> (number, row, word, kind, offset, length)
     prefix_of_uri(table, pool, row, query) -> (number, row, word, offset, length)
     is_default(table, pool, row, query) -> (number, row, word, yes)
     in_scope_uri(table, pool, row, query) -> (number, row, word, kind, offset, length)
@@ -334,21 +334,42 @@ def declaration_of(tree, element, prefix):
     return next((row for row in tree.declarations(element) if row.local_name.text == prefix), None)
 
 
+class Bound(NamedTuple):
+    """What a lookup finds that knows the built-ins; a built-in has its text, and no place."""
+    kind: str
+    field: Field
+
+
+NOTHING = Bound("none", EMPTY)
+BUILT_IN_URIS = {b"xml": Bound("xml", Field(0, 0, XML_URI)), b"xmlns": Bound("xmlns", Field(0, 0, XMLNS_URI))}
+BUILT_IN_PREFIXES = {XML_URI: Bound("xml", Field(0, 0, b"xml")), XMLNS_URI: Bound("xmlns", Field(0, 0, b"xmlns"))}
+
+
+def placed(value):
+    """A value, or nothing when it is empty."""
+    return NOTHING if value.text == b"" else Bound("place", value)
+
+
 def uri_from(tree, start, prefix):
-    """At each element outward: if it has a URI and its prefix equals the query, that URI. Else if it has a declaration of
-    that prefix, its value, or nothing when the value is empty. Else the next ancestor element."""
+    """At a start element, `xml` and `xmlns` answer XML-URI and XMLNS-URI. At each element outward: if it has a URI and its
+    prefix equals the query, that URI. Else if it has a declaration of that prefix, its value, or nothing when the value is
+    empty. Else the next ancestor element. With no start element: nothing."""
+    if start is None:
+        return NOTHING
+    if prefix in BUILT_IN_URIS:
+        return BUILT_IN_URIS[prefix]
     for element in outward(tree, start):
         if has_own_name(element) and element.uri.text != b"" and element.prefix.text == prefix:
-            return element.uri
+            return Bound("place", element.uri)
         declaration = declaration_of(tree, element, prefix)
         if declaration is not None:
-            return declaration.value
-    return EMPTY
+            return placed(declaration.value)
+    return NOTHING
 
 
 def means_at(tree, start, prefix, uri):
     """The URI of that prefix, looked up from the start element, is the query."""
-    return uri_from(tree, start, prefix).text == uri
+    return uri_from(tree, start, prefix).field.text == uri
 
 
 def prefix_from(tree, start, uri):
@@ -369,25 +390,8 @@ def prefix_from(tree, start, uri):
 
 
 def default_from(tree, start, uri):
-    """At each element outward: with no prefix, yes exactly if its URI equals the query. Else with a default declaration,
-    yes exactly if its value equals the query. Else outward; at the end, no. Empty equals empty."""
-    for element in outward(tree, start):
-        if has_own_name(element) and element.prefix.text == b"":
-            return element.uri.text == uri
-        declaration = declaration_of(tree, element, b"")
-        if declaration is not None:
-            return declaration.value.text == uri
-    return False
-
-
-class InScope(NamedTuple):
-    kind: str
-    field: Field
-
-
-NOTHING = InScope("none", EMPTY)
-BUILT_IN_URIS = {b"xml": InScope("xml", Field(0, 0, XML_URI)), b"xmlns": InScope("xmlns", Field(0, 0, XMLNS_URI))}
-BUILT_IN_PREFIXES = {XML_URI: InScope("xml", Field(0, 0, b"xml")), XMLNS_URI: InScope("xmlns", Field(0, 0, b"xmlns"))}
+    """Yes exactly if the URI of the empty prefix equals the query, where nothing equals empty."""
+    return uri_from(tree, start, b"").field.text == uri
 
 
 def scope_uri(tree, start, prefix):
@@ -400,7 +404,7 @@ def scope_uri(tree, start, prefix):
     for element in outward(tree, start):
         declaration = declaration_of(tree, element, prefix)
         if declaration is not None:
-            return NOTHING if declaration.value.text == b"" else InScope("place", declaration.value)
+            return placed(declaration.value)
     return NOTHING
 
 
@@ -420,7 +424,7 @@ def scope_prefix(tree, start, uri):
         for declaration in tree.declarations(element):
             prefix = declaration.local_name
             if prefix.text != b"" and declaration.value.text == uri and in_scope_as(tree, start, prefix.text, uri):
-                return InScope("place", prefix)
+                return Bound("place", prefix)
     return NOTHING
 
 
@@ -435,9 +439,14 @@ def asked(table, pool, row, query, question):
     return NOT_REFUSED, question(tree, start_element(tree, tree.rows[row]), query)
 
 
+def bound(table, pool, row, query, question):
+    refusal, found = asked(table, pool, row, query, question)
+    found = found or NOTHING
+    return (*refusal, found.kind, found.field.offset, found.field.length)
+
+
 def uri_of_prefix(table, pool, row, query):
-    refusal, found = asked(table, pool, row, query, uri_from)
-    return (*refusal, found.offset, found.length) if found else (*refusal, 0, 0)
+    return bound(table, pool, row, query, uri_from)
 
 
 def prefix_of_uri(table, pool, row, query):
@@ -451,15 +460,11 @@ def is_default(table, pool, row, query):
 
 
 def in_scope_uri(table, pool, row, query):
-    refusal, found = asked(table, pool, row, query, scope_uri)
-    found = found or NOTHING
-    return (*refusal, found.kind, found.field.offset, found.field.length)
+    return bound(table, pool, row, query, scope_uri)
 
 
 def in_scope_prefix(table, pool, row, query):
-    refusal, found = asked(table, pool, row, query, scope_prefix)
-    found = found or NOTHING
-    return (*refusal, found.kind, found.field.offset, found.field.length)
+    return bound(table, pool, row, query, scope_prefix)
 
 
 # Normalization.
