@@ -3,14 +3,12 @@ use Rattle.rules.specs.Answers as rules
 use Rattle.rules.specs.declared.Refusal.{Refusal}
 use Rattle.rules.specs.declared.Checked.{Checked}
 use Rattle.rules.specs.declared.Located.{Located}
-use Rattle.rules.specs.declared.Tested.{Tested}
 use Rattle.rules.specs.declared.Bound.{Bound}
 use Rattle.rules.specs.declared.Normalized.{Normalized}
 use Rattle.rules.specs.declared.Read.{Read}
 use Rattle.rules.specs.declared.Written.{Written}
 use Rattle.answers.specs.declared.Number.{Number}
 use Rattle.answers.specs.declared.Found.{Found}
-use Rattle.answers.specs.declared.Test.{Test}
 use Rattle.answers.specs.declared.Sizes.{Sizes}
 use Rattle.answers.specs.declared.Used.{Used}
 
@@ -25,9 +23,6 @@ checkGiven a = numberGiven (rules.checkNumber a)
 
 abbrev pub locatedGiven : Located → Found
 locatedGiven a = record { number = numberGiven (rules.locatedNumber a); found = rules.locatedFound a; place = rules.locatedPlace a }
-
-abbrev pub testedGiven : Tested → Test
-testedGiven a = record { number = numberGiven (rules.testedNumber a); yes = rules.testedYes a }
 
 abbrev pub boundGiven : Bound → Found
 boundGiven a = record { number = numberGiven (rules.boundNumber a); found = rules.boundFound a; place = rules.boundPlace a }

@@ -1,6 +1,6 @@
 // RULES 2: the numbers and values of each answer, as structs that C reads too.
 ghost use mathlib.Core.Path.{_≡_};
-ghost use Rattle.answers.specs.Given.{refusalGiven, checkGiven, locatedGiven, testedGiven, boundGiven, normalizedGiven, readGiven, writtenGiven};
+ghost use Rattle.answers.specs.Given.{refusalGiven, checkGiven, locatedGiven, boundGiven, normalizedGiven, readGiven, writtenGiven};
 use rules::Bound;
 use rules::Checked;
 use rules::Located;
@@ -10,7 +10,6 @@ use rules::Place;
 use rules::Read;
 use rules::Refusal;
 use rules::Row;
-use rules::Tested;
 use rules::Written;
 
 // The refusal's number, the row at fault, and the word, 2, 4, 6 or 8, of the offset of the field at fault. The row is 0 for a
@@ -38,13 +37,6 @@ pub const PLACE: u32 = 1;
 pub const BUILT_IN_XML: u32 = 2;
 
 pub const BUILT_IN_XMLNS: u32 = 3;
-
-// What the default test said; no for a refusal.
-#[repr(C)]
-pub struct Test {
-    pub number: Number,
-    pub yes: bool,
-}
 
 // The rows and bytes of two outputs that are used; 0 for a refusal.
 #[repr(C)]
@@ -88,16 +80,6 @@ pub fn located(answer: Located) -> Found
         Located::At(place) => Found::new(NOT_REFUSED, PLACE, place),
         Located::Nothing => Found::new(NOT_REFUSED, NOTHING, NO_PLACE),
         Located::Refused(refusal) => Found::new(number_of(refusal), NOTHING, NO_PLACE),
-    }
-}
-
-pub fn tested(answer: Tested) -> Test
-    ensures { λ r. ⌜ r ≡ testedGiven answer ⌝ }
-{
-    match answer {
-        Tested::Yes => Test::new(NOT_REFUSED, true),
-        Tested::No => Test::new(NOT_REFUSED, false),
-        Tested::Refused(refusal) => Test::new(number_of(refusal), false),
     }
 }
 
@@ -187,14 +169,6 @@ impl Found {
             found,
             place,
         }
-    }
-}
-
-impl Test {
-    fn new(number: Number, yes: bool) -> Self
-        ensures { λ r. ⌜ r ≡ record { number = number; yes = yes } ⌝ }
-    {
-        Self { number, yes }
     }
 }
 

@@ -6,18 +6,21 @@ use mathlib.Core.Bool.{Bool, true, false}
 use mathlib.Core.List.{List, [], _∷_}
 use mathlib.Core.Option.{Option, none, some, Option·none-ne-some}
 use lib.ListN.{length, take, drop}
+use Rattle.rules.specs.Lists.{sameBytes}
 use Rattle.rules.specs.Table.{WIDTH, MOST-BYTES}
 use Rattle.rules.specs.Refusals.{refusedIf, firstRefusal, unlessRefused, badSize, checkRefusal, checked}
-use Rattle.rules.specs.Lookups.{lookupRefusal, uriOfPrefixAt, prefixOfUriAt, isDefaultAt, inScopeUriAt, inScopePrefixAt}
+use Rattle.rules.specs.Lookups.{isDefault, withoutBuiltIns, lookupElements, lookupRefusal, lookupAt, defaultUriAt, locatedPart}
 use Rattle.rules.specs.Normalization.{normalizationRefusal}
 use Rattle.rules.specs.declared.Refusal.{Refusal}
+use Rattle.rules.specs.declared.Question.{Question}
 use Rattle.rules.specs.declared.Checked.{Checked}
 use Rattle.rules.specs.declared.Located.{Located}
-use Rattle.rules.specs.declared.Tested.{Tested}
 use Rattle.rules.specs.declared.Bound.{Bound}
+use Rattle.rules.proofs.DefaultUri.{default-test}
 use Rattle.bundles.specs.Bundles.{HEADER, ROW-BYTES, bundleRefusal, bundleTable, bundlePool}
-use Rattle.bundles.specs.Operations.{readRefused, tableReadRefusal, tableRead, writeRefused, bundleWritten, overBundle, bundleRead, bundleChecked, bundleUriOfPrefix, bundlePrefixOfUri, bundleIsDefault, bundleInScopeUri, bundleInScopePrefix, normalizedInto, bundleNormalized}
+use Rattle.bundles.specs.Operations.{readRefused, tableReadRefusal, tableRead, writeRefused, bundleWritten, overBundle, bundleRead, bundleChecked, bundleLookup, bundlePrefixOfUri, bundleDefaultUri, normalizedInto, bundleNormalized}
 use Rattle.bundles.specs.Opening.{openingRefusal, Opens}
+use Rattle.bundles.specs.Demands.{bundleNodes, BundleDefaultTest}
 
 -- A table that the check refuses is refused by every operation.
 module _ (table pool : List ℕ) (x : Refusal) (e : checkRefusal table pool ≡ some x) where
@@ -29,25 +32,9 @@ module _ (table pool : List ℕ) (x : Refusal) (e : checkRefusal table pool ≡ 
   unfolding lookupRefusal
   lookup-refused r = rw e refl
 
-  uri-refused : (r : ℕ) (q : List ℕ) → uriOfPrefixAt table pool r q ≡ Bound.Refused x
-  unfolding uriOfPrefixAt
-  uri-refused r q = rw (lookup-refused r) refl
-
-  prefix-refused : (r : ℕ) (q : List ℕ) → prefixOfUriAt table pool r q ≡ Located.Refused x
-  unfolding prefixOfUriAt
-  prefix-refused r q = rw (lookup-refused r) refl
-
-  default-refused : (r : ℕ) (q : List ℕ) → isDefaultAt table pool r q ≡ Tested.Refused x
-  unfolding isDefaultAt
-  default-refused r q = rw (lookup-refused r) refl
-
-  in-scope-uri-refused : (r : ℕ) (q : List ℕ) → inScopeUriAt table pool r q ≡ Bound.Refused x
-  unfolding inScopeUriAt
-  in-scope-uri-refused r q = rw (lookup-refused r) refl
-
-  in-scope-prefix-refused : (r : ℕ) (q : List ℕ) → inScopePrefixAt table pool r q ≡ Bound.Refused x
-  unfolding inScopePrefixAt
-  in-scope-prefix-refused r q = rw (lookup-refused r) refl
+  answer-refused : (question : Question) (r : ℕ) (q : List ℕ) → lookupAt question table pool r q ≡ Bound.Refused x
+  unfolding lookupAt
+  answer-refused question r q = rw (lookup-refused r) refl
 
   read-refused : (tableSize poolSize : ℕ) → tableRead table pool tableSize poolSize ≡ readRefused tableSize poolSize x
   unfolding tableRead tableReadRefusal
@@ -86,25 +73,9 @@ module _ (bytes : List ℕ) (x : Refusal) (e : openingRefusal bytes ≡ some x) 
   unfolding bundleChecked
   check-not-open = over-refused bytes Checked.Refused checked x e (checked-refused _ _ Refusal.Size)
 
-  pub uri-not-open : (r : ℕ) (q : List ℕ) → bundleUriOfPrefix bytes r q ≡ Bound.Refused x
-  unfolding bundleUriOfPrefix
-  uri-not-open r q = over-refused bytes Bound.Refused (λ t p. uriOfPrefixAt t p r q) x e (λ s. uri-refused _ _ Refusal.Size s r q)
-
-  pub prefix-not-open : (r : ℕ) (q : List ℕ) → bundlePrefixOfUri bytes r q ≡ Located.Refused x
-  unfolding bundlePrefixOfUri
-  prefix-not-open r q = over-refused bytes Located.Refused (λ t p. prefixOfUriAt t p r q) x e (λ s. prefix-refused _ _ Refusal.Size s r q)
-
-  pub default-not-open : (r : ℕ) (q : List ℕ) → bundleIsDefault bytes r q ≡ Tested.Refused x
-  unfolding bundleIsDefault
-  default-not-open r q = over-refused bytes Tested.Refused (λ t p. isDefaultAt t p r q) x e (λ s. default-refused _ _ Refusal.Size s r q)
-
-  pub in-scope-uri-not-open : (r : ℕ) (q : List ℕ) → bundleInScopeUri bytes r q ≡ Bound.Refused x
-  unfolding bundleInScopeUri
-  in-scope-uri-not-open r q = over-refused bytes Bound.Refused (λ t p. inScopeUriAt t p r q) x e (λ s. in-scope-uri-refused _ _ Refusal.Size s r q)
-
-  pub in-scope-prefix-not-open : (r : ℕ) (q : List ℕ) → bundleInScopePrefix bytes r q ≡ Bound.Refused x
-  unfolding bundleInScopePrefix
-  in-scope-prefix-not-open r q = over-refused bytes Bound.Refused (λ t p. inScopePrefixAt t p r q) x e (λ s. in-scope-prefix-refused _ _ Refusal.Size s r q)
+  pub lookup-not-open : (question : Question) (r : ℕ) (q : List ℕ) → bundleLookup question bytes r q ≡ Bound.Refused x
+  unfolding bundleLookup
+  lookup-not-open question r q = over-refused bytes Bound.Refused (λ t p. lookupAt question t p r q) x e (λ s. answer-refused _ _ Refusal.Size s question r q)
 
   pub read-not-open : (tableSize poolSize : ℕ) → bundleRead bytes tableSize poolSize ≡ readRefused tableSize poolSize x
   unfolding bundleRead
@@ -133,25 +104,9 @@ module _ (bytes buffer : List ℕ) (n : ℕ) (is : Opens bytes buffer n) (pool :
   unfolding bundleChecked
   check-open = over-open Checked.Refused checked
 
-  pub uri-open : (r : ℕ) (q : List ℕ) → uriOfPrefixAt (take (WIDTH * n) buffer) pool r q ≡ bundleUriOfPrefix bytes r q
-  unfolding bundleUriOfPrefix
-  uri-open r q = over-open Bound.Refused (λ t p. uriOfPrefixAt t p r q)
-
-  pub prefix-open : (r : ℕ) (q : List ℕ) → prefixOfUriAt (take (WIDTH * n) buffer) pool r q ≡ bundlePrefixOfUri bytes r q
-  unfolding bundlePrefixOfUri
-  prefix-open r q = over-open Located.Refused (λ t p. prefixOfUriAt t p r q)
-
-  pub default-open : (r : ℕ) (q : List ℕ) → isDefaultAt (take (WIDTH * n) buffer) pool r q ≡ bundleIsDefault bytes r q
-  unfolding bundleIsDefault
-  default-open r q = over-open Tested.Refused (λ t p. isDefaultAt t p r q)
-
-  pub in-scope-uri-open : (r : ℕ) (q : List ℕ) → inScopeUriAt (take (WIDTH * n) buffer) pool r q ≡ bundleInScopeUri bytes r q
-  unfolding bundleInScopeUri
-  in-scope-uri-open r q = over-open Bound.Refused (λ t p. inScopeUriAt t p r q)
-
-  pub in-scope-prefix-open : (r : ℕ) (q : List ℕ) → inScopePrefixAt (take (WIDTH * n) buffer) pool r q ≡ bundleInScopePrefix bytes r q
-  unfolding bundleInScopePrefix
-  in-scope-prefix-open r q = over-open Bound.Refused (λ t p. inScopePrefixAt t p r q)
+  pub lookup-open : (question : Question) (r : ℕ) (q : List ℕ) → lookupAt question (take (WIDTH * n) buffer) pool r q ≡ bundleLookup question bytes r q
+  unfolding bundleLookup
+  lookup-open question r q = over-open Bound.Refused (λ t p. lookupAt question t p r q)
 
   pub read-open : (tableSize poolSize : ℕ) → tableRead (take (WIDTH * n) buffer) pool tableSize poolSize ≡ bundleRead bytes tableSize poolSize
   unfolding bundleRead
@@ -160,3 +115,34 @@ module _ (bytes buffer : List ℕ) (n : ℕ) (is : Opens bytes buffer n) (pool :
   pub normalize-open : (size : ℕ) → normalizedInto (take (WIDTH * n) buffer) pool size ≡ bundleNormalized bytes size
   unfolding bundleNormalized
   normalize-open size = over-open (writeRefused size) (λ t p. normalizedInto t p size)
+
+-- An answer without built-ins is refused as the lookup is.
+module _ (bytes : List ℕ) (r : ℕ) where
+  plain-over :
+      (o : Option Refusal) (found : Bound)
+      → withoutBuiltIns (unlessRefused o Bound.Refused found) ≡ unlessRefused o Located.Refused (withoutBuiltIns found)
+  unfolding withoutBuiltIns
+  plain-over none found = refl
+  plain-over (some x) found = refl
+
+  pub prefix-over : (uri : List ℕ) → withoutBuiltIns (bundleLookup Question.PrefixOfUri bytes r uri) ≡ bundlePrefixOfUri bytes r uri
+  unfolding bundleLookup bundlePrefixOfUri
+  prefix-over uri = plain-over (bundleRefusal bytes) _
+
+  pub default-over : withoutBuiltIns (bundleLookup Question.UriOfPrefix bytes r []) ≡ bundleDefaultUri bytes r
+  unfolding bundleLookup bundleDefaultUri
+  default-over = plain-over (bundleRefusal bytes) _
+
+pub bundle-default-test : BundleDefaultTest
+unfolding bundleDefaultUri
+bundle-default-test bytes r unrefused uri = go (bundleRefusal bytes) unrefused
+  where
+    answer : Located
+    answer = defaultUriAt (bundleTable bytes) (bundlePool bytes) r
+
+    go :
+        (o : Option Refusal) → ((x : Refusal) → unlessRefused o Located.Refused answer ≡ Located.Refused x → ⊥)
+        → sameBytes (locatedPart (bundlePool bytes) (unlessRefused o Located.Refused answer)) uri
+        ≡ isDefault (bundleNodes bytes) uri (lookupElements (bundleNodes bytes) r)
+    go none open? = default-test (bundleTable bytes) (bundlePool bytes) r open? uri
+    go (some x) open? = absurd (open? x refl)

@@ -1,7 +1,7 @@
 // The lookups. A line gives a prefix and a URI, and after the pool the rows that are asked: each its number and what it
 // is. The lookups of a URI are asked for the prefix, the others for the URI.
+use crate::lookup_report::compared;
 use crate::lookup_report::found;
-use crate::lookup_report::tested;
 use crate::parts::part;
 use crate::parts::piece;
 use crate::texts;
@@ -51,7 +51,7 @@ fn lookups(table: &[u32], pool: &[u8], row: Row, line: &[u8]) {
     let prefix = part(line, 1);
     let uri = part(line, 2);
     by_names(table, pool, row, prefix, uri);
-    is_default(table, pool, row, uri);
+    default(table, pool, row, uri);
     by_declarations(table, pool, row, prefix, uri);
     texts::write(texts::LINE);
 }
@@ -71,6 +71,8 @@ fn by_declarations(table: &[u32], pool: &[u8], row: Row, prefix: &[u8], uri: &[u
     found(texts::PREFIX, of_uri, texts::NONE);
 }
 
-fn is_default(table: &[u32], pool: &[u8], row: Row, uri: &[u8]) {
-    tested(answers::tested(lookups::is_default(table, pool, row, uri)));
+// The default URI is asked for, and compared with the one that is given.
+fn default(table: &[u32], pool: &[u8], row: Row, uri: &[u8]) {
+    let default_uri = answers::located(lookups::default_uri(table, pool, row));
+    compared(pool, default_uri, uri);
 }

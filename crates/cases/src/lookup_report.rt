@@ -2,7 +2,6 @@
 use crate::texts;
 use answers::Found;
 use answers::Number;
-use answers::Test;
 
 // A refusal, a place, a built-in, or nothing, after a text.
 pub fn found(text: usize, given: Found, nothing: usize) {
@@ -21,14 +20,16 @@ pub fn found(text: usize, given: Found, nothing: usize) {
     built_in(given.found, nothing);
 }
 
-// Whether a URI is the default, or a refusal.
-pub fn tested(given: Test) {
+// Whether a URI is the default that was found, or a refusal. Nothing has place 0, 0, so it equals the empty URI.
+pub fn compared(pool: &[u8], given: Found, uri: &[u8]) {
     texts::write(texts::DEFAULT);
     let number = given.number;
     if refused(number) {
         return;
     }
-    texts::either(given.yes, texts::YES, texts::NO);
+    let place = given.place;
+    let is = names::is_part(pool, place.offset, place.length, uri);
+    texts::either(is, texts::YES, texts::NO);
 }
 
 // Prints a refusal, if it is one.

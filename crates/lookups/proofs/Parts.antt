@@ -13,24 +13,21 @@ use borrow.Author.Tests.{ltb-true, ltb-false, le-leb, leb-true}
 use Rattle.rules.specs.Lists.{isEmpty, sameBytes}
 use Rattle.rules.specs.Table.{xmlPrefix, xmlnsPrefix, Field, Node, nodes, node, rowCount}
 use Rattle.rules.specs.Refusals.{refusedIf, unlessRefused, checkRefusal}
-use Rattle.rules.specs.Lookups.{Binding, declared, builtInXml, builtInXmlns, unbound, uriOfPrefix, prefixOfUri, located, bound, lookupElements, lookupRefusal, uriOfPrefixAt, prefixOfUriAt}
+use Rattle.rules.specs.Lookups.{Binding, declared, builtInXml, builtInXmlns, unbound, orUnbound, uriOfPrefix, prefixOfUri, bound, withoutBuiltIns, lookupElements, findings, lookupRefusal, lookupAt, uriOfPrefixAt, prefixOfUriAt}
 use Rattle.rules.specs.Answers.{boundPlace, locatedPlace}
 use Rattle.rules.specs.declared.Refusal.{Refusal}
+use Rattle.rules.specs.declared.Question.{Question}
 use Rattle.rules.specs.declared.Bound.{Bound}
-use Rattle.rules.specs.declared.Located.{Located}
 use Rattle.rules.proofs.Lists.{by-cases}
+use Rattle.rules.proofs.Table.{no-row}
 use Rattle.rules.proofs.Refusals.{all-none}
 use Rattle.rules.proofs.Accepted.{Accepted, FieldAccepted, FieldsAccepted, fields-accepted, unrefused}
 use Rattle.names.specs.Parts.{StandsAt}
 use Rattle.outward.specs.Deciding.{Ordinary}
 use Rattle.outward.proofs.Left.{uriLookup, prefixLookup}
-use Rattle.outward.proofs.Every.{no-row, answers-good}
+use Rattle.outward.proofs.Every.{answers-good}
 
--- The field, if there is one, starts in the pool, or at its end.
-abbrev starts : ℕ → Option Field → Bool
-starts size none = true
-starts size (some f) = leb (f .offset) size
-
+-- The field, if one is found, starts in the pool, or at its end.
 abbrev bindingStarts : ℕ → Binding → Bool
 bindingStarts size (declared f) = leb (f .offset) size
 bindingStarts size builtInXml = true
@@ -39,11 +36,6 @@ bindingStarts size unbound = true
 
 field-starts : (size : ℕ) (f : Field) → FieldAccepted size f → leb (f .offset) size ≡ true
 field-starts size f is = le-leb (f .offset) size (omega (arith, is .inPool))
-
-located-starts : (size : ℕ) (o : Option Field) → starts size o ≡ true → locatedPlace (located o) .offset .0 ≤ size
-unfolding locatedPlace
-located-starts size none is = omega arith
-located-starts size (some f) is = leb-true (f .offset) size is
 
 bound-starts : (size : ℕ) (b : Binding) → bindingStarts size b ≡ true → boundPlace (bound b) .offset .0 ≤ size
 unfolding boundPlace
@@ -95,41 +87,58 @@ module _ (table pool : List ℕ) (is : Accepted table pool) where
       by-cases (sameBytes prefix xmlnsPrefix) (xmlns-starts prefix path notXml)
       (λ notXmlns. ordinary-starts prefix path (record { notXml = notXml; notXmlns = notXmlns })))
 
-  prefix-starts : (uri path : List ℕ) → starts (length pool) (prefixOfUri ns uri path) ≡ true
+  prefix-starts : (uri path : List ℕ) → bindingStarts (length pool) (orUnbound (prefixOfUri ns uri path)) ≡ true
   unfolding prefixOfUri
   prefix-starts uri path =
       by-cases (isEmpty uri) (λ empty. rw empty refl)
       (λ full.
       rw full
-      (answers-good ns (prefixLookup ns path uri) (starts (length pool)) refl (λ e. field-starts (length pool) (node ns e .prefix) (row-fields e .prefix))
+      (answers-good ns (prefixLookup ns path uri) (λ o. bindingStarts (length pool) (orUnbound o)) refl (λ e. field-starts (length pool) (node ns e .prefix) (row-fields e .prefix))
       (λ r less. field-starts (length pool) (node ns r .local) (row-fields r .local)) path))
 
 -- Of a lookup that is not refused the table is accepted; a refusal has the place of nothing.
 module _ (table pool : List ℕ) (r : ℕ) where
+  refused-starts : (x : Refusal) → boundPlace (Bound.Refused x) .offset .0 ≤ length pool
+  unfolding boundPlace
+  refused-starts x = omega arith
+
+  plain-place : (found : Bound) → locatedPlace (withoutBuiltIns found) ≡ boundPlace found
+  unfolding withoutBuiltIns locatedPlace boundPlace
+  plain-place (Bound.At p) = refl
+  plain-place Bound.Xml = refl
+  plain-place Bound.Xmlns = refl
+  plain-place Bound.Nothing = refl
+  plain-place (Bound.Refused x) = refl
+
   table-accepted : lookupRefusal table pool r ≡ none → Accepted table pool
   unfolding lookupRefusal
   table-accepted is =
       unrefused table pool (all-none (checkRefusal table pool ∷ refusedIf (leb (rowCount table) r) Refusal.NoSuchRow ∷ []) is .0)
 
-  unless-refused :
-      {A : Type 0} (offset : A → ℕ) (refused : Refusal → A) (answer : A) → ((x : Refusal) → offset (refused x) ≤ length pool)
-      → (Accepted table pool → offset answer ≤ length pool) → (o : Option Refusal) → lookupRefusal table pool r ≡ o → offset (unlessRefused o refused answer) ≤ length pool
-  unless-refused offset refused answer nothing in? none is = in? (table-accepted is)
-  unless-refused offset refused answer nothing in? (some x) is = nothing x
+  lookup-place :
+      (question : Question) (query : List ℕ)
+      → (Accepted table pool → bindingStarts (length pool) (findings question (nodes table pool) query (lookupElements (nodes table pool) r)) ≡ true)
+      → boundPlace (lookupAt question table pool r query) .offset .0 ≤ length pool
+  unfolding lookupAt
+  lookup-place question query starts = go (lookupRefusal table pool r) refl
+    where
+      found : Binding
+      found = findings question (nodes table pool) query (lookupElements (nodes table pool) r)
+
+      go : (o : Option Refusal) → lookupRefusal table pool r ≡ o → boundPlace (unlessRefused o Bound.Refused (bound found)) .offset .0 ≤ length pool
+      go none is = bound-starts (length pool) found (starts (table-accepted is))
+      go (some x) is = refused-starts x
 
   pub uri-place : (prefix : List ℕ) → boundPlace (uriOfPrefixAt table pool r prefix) .offset .0 ≤ length pool
-  unfolding uriOfPrefixAt boundPlace
+  unfolding findings
   uri-place prefix =
-      let found = uriOfPrefix (nodes table pool) prefix (lookupElements (nodes table pool) r) in
-      unless-refused (λ a. boundPlace a .offset .0) Bound.Refused (bound found) (λ x. omega arith)
-      (λ is. bound-starts (length pool) found (uri-starts table pool is prefix (lookupElements (nodes table pool) r))) (lookupRefusal table pool r) refl
+      lookup-place Question.UriOfPrefix prefix (λ is. uri-starts table pool is prefix (lookupElements (nodes table pool) r))
 
   pub prefix-place : (uri : List ℕ) → locatedPlace (prefixOfUriAt table pool r uri) .offset .0 ≤ length pool
-  unfolding prefixOfUriAt locatedPlace
+  unfolding findings
   prefix-place uri =
-      let found = prefixOfUri (nodes table pool) uri (lookupElements (nodes table pool) r) in
-      unless-refused (λ a. locatedPlace a .offset .0) Located.Refused (located found) (λ x. omega arith)
-      (λ is. located-starts (length pool) found (prefix-starts table pool is uri (lookupElements (nodes table pool) r))) (lookupRefusal table pool r) refl
+      rw (plain-place (lookupAt Question.PrefixOfUri table pool r uri))
+      (lookup-place Question.PrefixOfUri uri (λ is. prefix-starts table pool is uri (lookupElements (nodes table pool) r)))
 
 -- The part stands at a place that lies in the pool.
 pub stands-at :

@@ -60,7 +60,7 @@ pub fn bound_part<'p>(pool: &'p [u8], found: Bound) -> &'p [u8]
     }
 }
 
-// The part of the pool that an answer for a prefix stands for; empty for nothing and for a refusal.
+// The part of the pool that an answer for a prefix or for the default URI stands for; empty for nothing and for a refusal.
 pub fn located_part<'p>(pool: &'p [u8], found: Located) -> &'p [u8]
     ensures { λ r. ⌜ now r ≡ locatedPart (now (pool .entry)) found ⌝ }
     ensures { λ r. ⌜ StandsAt (pool .entry) (locatedPlace found .offset .0) r ⌝ }

@@ -2,13 +2,12 @@
 // answer.
 ghost use mathlib.Core.Path.{_≡_};
 ghost use lib.ListN.{length};
-ghost use Rattle.answers.specs.Given.{checkGiven, locatedGiven, testedGiven, boundGiven, readGiven, writtenGiven};
-ghost use Rattle.bundles.specs.Operations.{bundleRead, tableWritten, bundleChecked, bundleUriOfPrefix, bundlePrefixOfUri, bundleIsDefault, bundleInScopeUri, bundleInScopePrefix, bundleNormalized};
+ghost use Rattle.answers.specs.Given.{checkGiven, locatedGiven, boundGiven, readGiven, writtenGiven};
+ghost use Rattle.bundles.specs.Operations.{bundleRead, tableWritten, bundleChecked, bundleUriOfPrefix, bundlePrefixOfUri, bundleDefaultUri, bundleInScopeUri, bundleInScopePrefix, bundleNormalized};
 ghost use Rattle.markup.specs.Writing.{bundleText};
 use answers::Found;
 use answers::Number;
 use answers::Sizes;
-use answers::Test;
 use answers::Used;
 use rules::Row;
 
@@ -36,12 +35,12 @@ pub extern "C" fn noemathu_prefix_of_uri(bundle: &[u8], row: u32, uri: &[u8]) ->
     answers::located(sessions::prefix_of_uri(bundle, Row(row), uri))
 }
 
-// Whether a URI is the default at a row.
+// The default URI at a row. Whoever asks whether a URI is the default compares; nothing equals the empty URI.
 #[no_mangle]
-pub extern "C" fn noemathu_is_default(bundle: &[u8], row: u32, uri: &[u8]) -> Test
-    ensures { λ r. ⌜ r ≡ testedGiven (bundleIsDefault (now (bundle .entry)) row (now (uri .entry))) ⌝ }
+pub extern "C" fn noemathu_default_uri(bundle: &[u8], row: u32) -> Found
+    ensures { λ r. ⌜ r ≡ locatedGiven (bundleDefaultUri (now (bundle .entry)) row) ⌝ }
 {
-    answers::tested(sessions::is_default(bundle, Row(row), uri))
+    answers::located(sessions::default_uri(bundle, Row(row)))
 }
 
 // The in-scope URI of a prefix at a row: by declarations alone.

@@ -1,18 +1,17 @@
 -- The URI that a row decides, and its number.
 -- Assumes nothing.
-use Prim.Native.Nat.{ℕ, suc, _≤_, _<_}
-use native.Mathlib.Omega.{arith}
+use Prim.Native.Nat.{ℕ, _<_}
 use mathlib.Core.Bool.{Bool, true, false, cond, _&&_, not}
 use mathlib.Core.List.{List, [], _∷_}
 use mathlib.Core.Option.{Option, none, some}
-use mathlib.Core.Path.{_≡_, refl, sym, ap, _∙_, subst}
+use mathlib.Core.Path.{_≡_, refl, sym, ap, _∙_}
 use lib.Dec.{eqb, ltb}
 use lib.ListN.{length}
 use native.Mathlib.Nat.{not-suc-le-zero}
 use borrow.Author.Tests.{eqb-true, eq-eqb, ne-eqb, ltb-true, ltb-false}
 use Rattle.rules.specs.Lists.{isEmpty, sameBytes}
 use Rattle.rules.specs.Table.{ELEMENT, TYPE, DECLARATION, URI, VALUE, xmlPrefix, xmlnsPrefix, xmlUri, Field, Node, nodes, nodeAt, fieldAt, word, rowCount}
-use Rattle.rules.specs.Lookups.{hasName, unlessEmpty, declared, unbound, orUnbound, uriBytes, namesUri, uriOfPrefix, leadsTo, isDefault, bound}
+use Rattle.rules.specs.Lookups.{hasName, unlessEmpty, declared, unbound, orUnbound, uriBytes, namesUri, uriOfPrefix, leadsTo, bound}
 use Rattle.rules.specs.declared.Place.{Place}
 use Rattle.rules.specs.declared.Bound.{Bound}
 use Rattle.rules.proofs.Lists.{by-cases, both-true, not-true, sameBytes-sym, sameBytes-empty}
@@ -114,20 +113,15 @@ module _ (table pool : List ℕ) (r : ℕ) (within : r < rowCount table) where
 
 -- The built-ins, where there is a start element.
 module _ (ns : List Node) (prefix : List ℕ) where
-  pub uri-unstarted : (path : List ℕ) → length path ≡ 0 → Bound.Nothing ≡ bound (uriOfPrefix ns prefix path)
+  pub uri-xml : (path : List ℕ) → 0 < length path → sameBytes prefix xmlPrefix ≡ true → Bound.Xml ≡ bound (uriOfPrefix ns prefix path)
   unfolding uriOfPrefix
-  uri-unstarted [] none? = refl
-  uri-unstarted (e ∷ outward) none? = absurd (not-suc-le-zero (subst (λ n. suc (length outward) ≤ n) none? (omega arith)))
+  uri-xml [] start is = absurd (not-suc-le-zero start)
+  uri-xml (e ∷ outward) start is = rw is refl
 
-  pub uri-xml : (path : List ℕ) → (length path ≡ 0 → ⊥) → sameBytes prefix xmlPrefix ≡ true → Bound.Xml ≡ bound (uriOfPrefix ns prefix path)
+  pub uri-xmlns : (path : List ℕ) → 0 < length path → sameBytes prefix xmlPrefix ≡ false → sameBytes prefix xmlnsPrefix ≡ true → Bound.Xmlns ≡ bound (uriOfPrefix ns prefix path)
   unfolding uriOfPrefix
-  uri-xml [] some? is = absurd (some? refl)
-  uri-xml (e ∷ outward) some? is = rw is refl
-
-  pub uri-xmlns : (path : List ℕ) → (length path ≡ 0 → ⊥) → sameBytes prefix xmlPrefix ≡ false → sameBytes prefix xmlnsPrefix ≡ true → Bound.Xmlns ≡ bound (uriOfPrefix ns prefix path)
-  unfolding uriOfPrefix
-  uri-xmlns [] some? other is = absurd (some? refl)
-  uri-xmlns (e ∷ outward) some? other is = rw (other, is) refl
+  uri-xmlns [] start other is = absurd (not-suc-le-zero start)
+  uri-xmlns (e ∷ outward) start other is = rw (other, is) refl
 
 -- xml leads to its URI.
 xml-leads :
@@ -145,14 +139,6 @@ module _ {table pool notes : List ℕ} {uri : ℕ} {name : List ℕ} (m : Meant 
       ap (λ (k : ℕ). eqb k uri) read
       ∙ m .asked (decidedNumber table notes r) (uriBytes (decided (found (nodes table pool) r))) (decided-names m r)
       ∙ ap (λ b. sameBytes (uriBytes b) name) is
-
-  pub default-asked : decided (found (nodes table pool) r) ≡ uriOfPrefix (nodes table pool) [] path → eqb n uri ≡ isDefault (nodes table pool) name path
-  unfolding isDefault
-  default-asked is = leads-asked [] is
-
-pub empty-ordinary : Ordinary []
-unfolding xmlPrefix xmlnsPrefix
-empty-ordinary = record { notXml = refl; notXmlns = refl }
 
 -- A prefix that leads to a URI.
 module _ {table pool notes : List ℕ} {uri prefix : ℕ} {name other : List ℕ} (m : Meant table pool notes uri name) (q : Meant table pool notes prefix other) (path : List ℕ) where

@@ -1,11 +1,11 @@
 -- What holds of every answer of a lookup.
 -- Assumes nothing.
-use Prim.Native.Nat.{ℕ, _≤_, _<_}
+use Prim.Native.Nat.{ℕ, _<_}
 use mathlib.Core.Bool.{Bool, true}
 use mathlib.Core.List.{List, [], _∷_}
 use mathlib.Core.Option.{Option, none, some}
 use mathlib.Core.Path.{_≡_, refl, ap, _∙_}
-use lib.ListN.{length, List·getD-eq-default}
+use lib.ListN.{length}
 use Rattle.rules.specs.Lists.{firstThat}
 use Rattle.rules.specs.Table.{Node, noNode, node}
 use Rattle.rules.specs.Lookups.{isDeclarationOf, ownDeclarations}
@@ -35,7 +35,3 @@ module _ {A : Type 0} (ns : List Node) (lookup : Lookup ns A) (good : A → Bool
       ∙ by-cases (lookup .named (node ns e)) (λ is. rw is (own e))
       (λ is.
       rw is (declared-or (firstThat (lookup .test) (ownDeclarations ns e)) (lookup .answer outward) (own-declared e) (answers-good outward)))
-
-pub no-row : (ns : List Node) (r : ℕ) → length ns ≤ r → node ns r ≡ noNode
-unfolding node
-no-row ns r past = List·getD-eq-default ns noNode past

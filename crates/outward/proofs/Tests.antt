@@ -8,8 +8,8 @@ use lib.Dec.{eqb}
 use borrow.Author.Tests.{eqb-true, eq-eqb, ne-eqb}
 use Rattle.rules.specs.Lists.{isEmpty, sameBytes}
 use Rattle.rules.specs.Table.{ELEMENT, TYPE, DECLARATION, xmlUri, xmlPrefix, xmlnsPrefix, Node, nodes, nodeAt, word, rowCount}
-use Rattle.rules.specs.Lookups.{namesUri, leadsTo, namesPrefix, givesPrefix, prefixAmong, prefixOfUri, located}
-use Rattle.rules.specs.declared.Located.{Located}
+use Rattle.rules.specs.Lookups.{namesUri, leadsTo, namesPrefix, givesPrefix, prefixAmong, prefixOfUri, orUnbound, bound}
+use Rattle.rules.specs.declared.Bound.{Bound}
 use Rattle.rules.proofs.Lists.{both-true, sameBytes-equal, sameBytes-sym, sameBytes-empty}
 use Rattle.notes.specs.Notes.{PREFIX, URI, VALUE, noteAt}
 use Rattle.declarations.specs.Meant.{Meant}
@@ -80,7 +80,7 @@ module _ {table pool notes : List ℕ} {number : ℕ} {name : List ℕ} (m : Mea
   empty-asked = m .asked 0 [] (none-names m) ∙ sameBytes-sym [] name ∙ sameBytes-empty name
 
   module _ (ns : List Node) (path : List ℕ) where
-    pub prefix-empty : number ≡ 0 → Located.Nothing ≡ located (prefixOfUri ns name path)
+    pub prefix-empty : number ≡ 0 → Bound.Nothing ≡ bound (orUnbound (prefixOfUri ns name path))
     unfolding prefixOfUri
     prefix-empty zero? = rw (sym empty-asked ∙ eq-eqb 0 number (sym zero?)) refl
 

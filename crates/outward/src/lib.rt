@@ -1,5 +1,5 @@
 // What the lookups that see elements' own names find along a path, from its first element outward: the
-// URI of a prefix, the prefix of a URI, and the default test. Names are asked for by their numbers.
+// URI of a prefix, and the prefix of a URI. Names are asked for by their numbers.
 ghost use mathlib.Core.Path.{_≡_};
 ghost use mathlib.Core.Bool.{_&&_, not};
 ghost use mathlib.Core.List.{List};
@@ -7,7 +7,7 @@ ghost use Prim.Native.Nat.{ℕ, _*_, _≤_, _<_};
 ghost use lib.ListN.{length};
 ghost use Rattle.rules.specs.Lists.{firstThat, isEmpty, sameBytes};
 ghost use Rattle.rules.specs.Table.{TYPE, DECLARATION, xmlUri, nodes, nodeAt, word, rowCount};
-ghost use Rattle.rules.specs.Lookups.{ownDeclarations, namesUri, uriOfPrefix, leadsTo, namesPrefix, givesPrefix, prefixOfUri, isDefault, located, bound};
+ghost use Rattle.rules.specs.Lookups.{ownDeclarations, namesUri, uriOfPrefix, leadsTo, namesPrefix, givesPrefix, prefixOfUri, orUnbound, bound};
 ghost use Rattle.notes.specs.Notes.{NOTES};
 ghost use Rattle.rows.specs.Reading.{found};
 ghost use Rattle.ancestors.specs.Paths.{Element};
@@ -15,7 +15,6 @@ ghost use Rattle.declarations.specs.Along.{Along};
 ghost use Rattle.declarations.specs.Meant.{Meant};
 ghost use Rattle.outward.specs.Deciding.{Started, Ordinary, Together, decided, decidedNumber};
 use rules::Bound;
-use rules::Located;
 use rules::Row;
 
 // The URI of a prefix that has this number, or of the default.
@@ -26,12 +25,9 @@ pub fn uri_of_prefix(
     prefix: &[u8],
     number: u16,
 ) -> Bound
-    requires { ⌜ Along (now table) (now notes) (now path) ⌝ }
+    requires { ⌜ Started (now table) (now notes) (now path) ⌝ }
     ensures { λ r. ⌜ ((pool : List ℕ) → Meant (now (table .entry)) pool (now (notes .entry)) number (now (prefix .entry)) → r ≡ bound (uriOfPrefix (nodes (now (table .entry)) pool) (now (prefix .entry)) (now (path .entry)))) ⌝ }
 {
-    if path.len() == 0 {
-        return Bound::Nothing; // built-ins included
-    }
     if names::is_xml(prefix) {
         return Bound::Xml;
     }
@@ -49,35 +45,27 @@ pub fn uri_of_prefix(
 }
 
 // The prefix of a URI that has this number. The empty URI has none.
-pub fn prefix_of_uri(table: &[u32], notes: &[u16], path: &[u32], uri: &[u8], number: u16) -> Located
-    requires { ⌜ Along (now table) (now notes) (now path) ⌝ }
-    ensures { λ r. ⌜ ((pool : List ℕ) → Meant (now (table .entry)) pool (now (notes .entry)) number (now (uri .entry)) → r ≡ located (prefixOfUri (nodes (now (table .entry)) pool) (now (uri .entry)) (now (path .entry)))) ⌝ }
+pub fn prefix_of_uri(table: &[u32], notes: &[u16], path: &[u32], uri: &[u8], number: u16) -> Bound
+    requires { ⌜ Started (now table) (now notes) (now path) ⌝ }
+    ensures { λ r. ⌜ ((pool : List ℕ) → Meant (now (table .entry)) pool (now (notes .entry)) number (now (uri .entry)) → r ≡ bound (orUnbound (prefixOfUri (nodes (now (table .entry)) pool) (now (uri .entry)) (now (path .entry))))) ⌝ }
 {
     if number == 0 {
-        return Located::Nothing;
+        return Bound::Nothing;
     }
     let xml = names::is_xml_uri(uri);
     let mut left = path;
     while left.len() > 0 {
         let element = rows::row_at(left, 0);
         if names_prefix(table, notes, path, element, number, xml) {
-            return Located::At(rows::place(table, element, rules::PREFIX));
+            return Bound::At(rows::place(table, element, rules::PREFIX));
         }
         let own = own_giving(table, notes, path, element, number, xml);
         if rows::has_row(table, own) {
-            return Located::At(rows::place(table, own, rules::LOCAL_NAME));
+            return Bound::At(rows::place(table, own, rules::LOCAL_NAME));
         }
         left = &left[1..];
     }
-    Located::Nothing
-}
-
-// The URI is the default: that of the empty prefix, or the empty one where there is none.
-pub fn is_default(table: &[u32], notes: &[u16], path: &[u32], uri: u16) -> bool
-    requires { ⌜ Along (now table) (now notes) (now path) ⌝ }
-    ensures { λ r. ⌜ ((pool name : List ℕ) → Meant (now (table .entry)) pool (now (notes .entry)) uri name → r ≡ isDefault (nodes (now (table .entry)) pool) name (now (path .entry))) ⌝ }
-{
-    uri_number(table, notes, deciding(table, notes, path, 0)) == uri
+    Bound::Nothing
 }
 
 // The row that decides the URI of a prefix that is not built in: an element by its own name, or a declaration.

@@ -8,7 +8,7 @@ use mathlib.Core.List.{List, [], _∷_, _++_, map, append-nil}
 use mathlib.Core.Option.{Option, none, some}
 use native.Mathlib.Nat.{le-refl, le-trans, lt-of-lt-of-le, le-of-suc-le-suc, not-suc-le-zero}
 use native.Mathlib.Omega.{arith}
-use lib.ListN.{length, getD, take, set, replicate, length-append, length-map, length-set, List·getD-eq-default}
+use lib.ListN.{length, getD, take, set, replicate, length-append, length-map, length-set}
 use lib.Seq.{getD-append-seam, take-at}
 use lib.Dec.{eqb, ltb}
 use borrow.Author.Tests.{eqb-true, eqb-false, eq-eqb, ne-eqb, ltb-true, ltb-false, lt-ltb, le-ltb}
@@ -22,7 +22,7 @@ use Rattle.rules.specs.Normalization.{State, newDeclaration, withPrefix,
 use Rattle.rules.specs.Demands.{PassesAgain}
 use Rattle.rules.specs.declared.Refusal.{Refusal}
 use Rattle.rules.proofs.Lists.{by-cases, both-true, both-false, true-both, not-true, sameBytes-refl, allOf-every, allOf-getD}
-use Rattle.rules.proofs.Table.{length-words}
+use Rattle.rules.proofs.Table.{no-row, length-words}
 use Rattle.rules.proofs.Refusals.{not-refused, all-none, none-lowest}
 use Rattle.rules.proofs.Accepted.{RowAccepted, Accepted, unrefused, structure-falls, fields-accepted, fields-encoded}
 use Rattle.rules.proofs.Scope.{SameCore, core-refl, core-trans, Kept}
@@ -260,10 +260,6 @@ any-none test d (suc r) (x ∷ xs) h e =
     let rest = any-none test d r xs (le-of-suc-le-suc h) (λ i l. e (suc i) (omega arith)) in
     rw (first, rest) refl
 
-no-row : (ns : List Node) → length ns ≤ NONE → node ns NONE ≡ noNode
-unfolding node
-no-row ns h = List·getD-eq-default ns noNode h
-
 -- Refusals 2 and 7 read no more of a row than what names it.
 double-core : {n n′ m m′ : Node} → SameCore n n′ → SameCore m m′ → isDouble n′ m′ ≡ isDouble n m
 unfolding isDouble
@@ -295,7 +291,7 @@ module _ (base rows : List Node) (long : length base ≤ length rows) (core : (r
       rw (c .type, c .parent, above, earlier) refl
     where
       go : (node base r .parent ≡ NONE) ⊎ (node base r .parent < r) → node rows (node base r .parent) .type ≡ node base (node base r .parent) .type
-      go (inl z) = rw z (ap (λ (n : Node). n .type) (no-row rows few ∙ sym (no-row base (le-trans long few))))
+      go (inl z) = rw z (ap (λ (n : Node). n .type) (no-row rows NONE few ∙ sym (no-row base NONE (le-trans long few))))
       go (inr p) = core (node base r .parent) (omega arith) .type
 
       alike : (k : ℕ) → k < length base → (isElement (getD rows k noNode .type) && eqb (getD rows k noNode .parent) (node base r .parent)) ≡ (isElement (getD base k noNode .type) && eqb (getD base k noNode .parent) (node base r .parent))

@@ -1,11 +1,11 @@
 -- Laws of specs/Table.antt: the rows of a table, and the words of rows.
 -- Assumes nothing.
-use Prim.Native.Nat.{ℕ, zero, suc, _+_, _*_, _<_}
+use Prim.Native.Nat.{ℕ, zero, suc, _+_, _*_, _≤_, _<_}
 use mathlib.Core.Path.{_≡_, refl, sym, _∙_, ap}
 use mathlib.Core.List.{List, [], _∷_, _++_, map}
 use native.Mathlib.Nat.{le-of-suc-le-suc, not-suc-le-zero, zero-add}
 use native.Mathlib.Omega.{arith}
-use lib.ListN.{length, getD, length-map, length-append, List·getD-append}
+use lib.ListN.{length, getD, length-map, length-append, List·getD-append, List·getD-eq-default}
 use lib.Seq.{getD-append-add}
 use Rattle.rules.specs.Lists.{numbersFrom, gathered}
 use Rattle.rules.specs.Table.{WIDTH, Node, noNode, word, nodeAt, rowCount, nodes, wordsOf, words, node}
@@ -27,6 +27,11 @@ unfolding nodes node
 node-nodes table pool r h =
     getD-map (nodeAt table pool) (numbersFrom 0 (rowCount table)) r 0 noNode (rw length-numbersFrom h)
     ∙ ap (nodeAt table pool) (getD-numbersFrom 0 (rowCount table) r 0 h ∙ zero-add r)
+
+-- past the last row there is no row
+pub no-row : (ns : List Node) (r : ℕ) → length ns ≤ r → node ns r ≡ noNode
+unfolding node
+no-row ns r past = List·getD-eq-default ns noNode past
 
 pub length-words : (ns : List Node) → length (words ns) ≡ WIDTH * length ns
 unfolding words

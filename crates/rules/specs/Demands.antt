@@ -1,5 +1,5 @@
--- RULES 6, demands: demand 3, and before it that a result passes the check. They speak of outcomes: the answer and the whole
--- output buffers.
+-- RULES 6, demands: that the default URI answers the default test, that a result passes the check, and demand 3. The latter
+-- speak of outcomes: the answer and the whole output buffers.
 use Prim.Native.Nat.{ℕ, zero, suc, _*_, _<_}
 use mathlib.Core.Path.{_≡_}
 use mathlib.Core.Bool.{Bool, cond, _&&_, _||_, not}
@@ -10,9 +10,18 @@ use Rattle.rules.specs.Lists.{filtered, isOneOf, isEmpty, sameBytes}
 use Rattle.rules.specs.Table.{WIDTH, NONE, ELEMENT, ATTRIBUTE, DECLARATION, Field, Node, fields, nodes, node}
 use Rattle.rules.specs.Answers.{normalizedNumber, normalizedRows, normalizedBytes}
 use Rattle.rules.specs.Refusals.{checked}
-use Rattle.rules.specs.Lookups.{scopeAt, inScopeUri, uriBytes}
+use Rattle.rules.specs.Lookups.{scopeAt, inScopeUri, uriBytes, isDefault, lookupElements, defaultUriAt, locatedPart}
 use Rattle.rules.specs.Normalization.{Outcome, normalized}
+use Rattle.rules.specs.declared.Refusal.{Refusal}
 use Rattle.rules.specs.declared.Checked.{Checked}
+use Rattle.rules.specs.declared.Located.{Located}
+
+-- Wherever the default URI is not refused, comparing it with a query is the default test: the bytes of the place, or none for
+-- nothing, are the query exactly if the query is the default.
+abbrev pub DefaultTest : Type 0
+DefaultTest =
+    (table pool : List ℕ) (r : ℕ) → ((x : Refusal) → defaultUriAt table pool r ≡ Located.Refused x → ⊥) → (uri : List ℕ) →
+    sameBytes (locatedPart pool (defaultUriAt table pool r)) uri ≡ isDefault (nodes table pool) uri (lookupElements (nodes table pool) r)
 
 -- Normalization succeeded.
 unfoldable pub succeeded : Outcome → Bool

@@ -126,17 +126,18 @@ pub enum Checked {
     Refused(Refusal),
 }
 
-// What the lookup of a prefix finds: a part of the pool, or nothing.
+// What is asked at a row: a URI of a prefix or a prefix of a URI, by names and declarations or by declarations alone.
+pub enum Question {
+    UriOfPrefix,
+    PrefixOfUri,
+    InScopeUri,
+    InScopePrefix,
+}
+
+// What the lookup of a prefix and that of the default URI find: a part of the pool, or nothing.
 pub enum Located {
     At(Place),
     Nothing,
-    Refused(Refusal),
-}
-
-// What the default test answers.
-pub enum Tested {
-    Yes,
-    No,
     Refused(Refusal),
 }
 

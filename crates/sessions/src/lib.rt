@@ -1,16 +1,16 @@
-// The operations over the bytes of a session bundle: the check, the five lookups, reading, normalization and XML text. Each
-// opens the bundle into a table of its own and works there.
+// The operations over the bytes of a session bundle: the check, the lookups, reading, normalization and XML text. Each opens
+// the bundle into a table of its own and works there.
 ghost use mathlib.Core.Path.{_≡_};
 ghost use lib.ListN.{length};
-ghost use Rattle.bundles.specs.Operations.{bundleRead, bundleChecked, bundleUriOfPrefix, bundlePrefixOfUri, bundleIsDefault, bundleInScopeUri, bundleInScopePrefix, bundleNormalized};
+ghost use Rattle.bundles.specs.Operations.{bundleRead, bundleChecked, bundleLookup, bundleUriOfPrefix, bundlePrefixOfUri, bundleDefaultUri, bundleInScopeUri, bundleInScopePrefix, bundleNormalized};
 ghost use Rattle.markup.specs.Writing.{bundleText};
 use bundles::Opened;
 use rules::Bound;
 use rules::Checked;
 use rules::Located;
+use rules::Question;
 use rules::Read;
 use rules::Row;
-use rules::Tested;
 use rules::Written;
 
 // The words of the largest table.
@@ -31,80 +31,35 @@ pub fn check(bundle: &[u8]) -> Checked
 pub fn uri_of_prefix(bundle: &[u8], row: Row, prefix: &[u8]) -> Bound
     ensures { λ r. ⌜ r ≡ bundleUriOfPrefix (now (bundle .entry)) (row .0) (now (prefix .entry)) ⌝ }
 {
-    let mut table = [buffers::UNREAD; WORDS];
-    match bundles::read_rows(bundle, &mut table) {
-        Opened::Rows(n) => lookups::uri_of_prefix(
-            &table[..rules::WIDTH * n],
-            bundles::pool(bundle, n),
-            row,
-            prefix,
-        ),
-        Opened::Refused(x) => Bound::Refused(x),
-    }
+    lookup(bundle, row, Question::UriOfPrefix, prefix)
 }
 
 // A prefix of a URI at a row.
 pub fn prefix_of_uri(bundle: &[u8], row: Row, uri: &[u8]) -> Located
     ensures { λ r. ⌜ r ≡ bundlePrefixOfUri (now (bundle .entry)) (row .0) (now (uri .entry)) ⌝ }
 {
-    let mut table = [buffers::UNREAD; WORDS];
-    match bundles::read_rows(bundle, &mut table) {
-        Opened::Rows(n) => lookups::prefix_of_uri(
-            &table[..rules::WIDTH * n],
-            bundles::pool(bundle, n),
-            row,
-            uri,
-        ),
-        Opened::Refused(x) => Located::Refused(x),
-    }
+    lookups::without_built_ins(lookup(bundle, row, Question::PrefixOfUri, uri))
 }
 
-// Whether a URI is the default at a row.
-pub fn is_default(bundle: &[u8], row: Row, uri: &[u8]) -> Tested
-    ensures { λ r. ⌜ r ≡ bundleIsDefault (now (bundle .entry)) (row .0) (now (uri .entry)) ⌝ }
+// The default URI at a row.
+pub fn default_uri(bundle: &[u8], row: Row) -> Located
+    ensures { λ r. ⌜ r ≡ bundleDefaultUri (now (bundle .entry)) (row .0) ⌝ }
 {
-    let mut table = [buffers::UNREAD; WORDS];
-    match bundles::read_rows(bundle, &mut table) {
-        Opened::Rows(n) => lookups::is_default(
-            &table[..rules::WIDTH * n],
-            bundles::pool(bundle, n),
-            row,
-            uri,
-        ),
-        Opened::Refused(x) => Tested::Refused(x),
-    }
+    lookups::without_built_ins(lookup(bundle, row, Question::UriOfPrefix, b""))
 }
 
 // The in-scope URI of a prefix at a row: by declarations alone.
 pub fn in_scope_uri(bundle: &[u8], row: Row, prefix: &[u8]) -> Bound
     ensures { λ r. ⌜ r ≡ bundleInScopeUri (now (bundle .entry)) (row .0) (now (prefix .entry)) ⌝ }
 {
-    let mut table = [buffers::UNREAD; WORDS];
-    match bundles::read_rows(bundle, &mut table) {
-        Opened::Rows(n) => lookups::in_scope_uri(
-            &table[..rules::WIDTH * n],
-            bundles::pool(bundle, n),
-            row,
-            prefix,
-        ),
-        Opened::Refused(x) => Bound::Refused(x),
-    }
+    lookup(bundle, row, Question::InScopeUri, prefix)
 }
 
 // An in-scope prefix of a URI at a row: by declarations alone.
 pub fn in_scope_prefix(bundle: &[u8], row: Row, uri: &[u8]) -> Bound
     ensures { λ r. ⌜ r ≡ bundleInScopePrefix (now (bundle .entry)) (row .0) (now (uri .entry)) ⌝ }
 {
-    let mut table = [buffers::UNREAD; WORDS];
-    match bundles::read_rows(bundle, &mut table) {
-        Opened::Rows(n) => lookups::in_scope_prefix(
-            &table[..rules::WIDTH * n],
-            bundles::pool(bundle, n),
-            row,
-            uri,
-        ),
-        Opened::Refused(x) => Bound::Refused(x),
-    }
+    lookup(bundle, row, Question::InScopePrefix, uri)
 }
 
 // Normalizes a bundle into a bundle: so that every element and every owned attribute means its URI in scope, whatever the
@@ -157,5 +112,22 @@ pub fn write_xml(bundle: &[u8], row: Row, out: &mut [u8]) -> Written
             writer::write(&table[..rules::WIDTH * n], pool, row, out)
         }
         Opened::Refused(x) => bundles::refuse(out, x),
+    }
+}
+
+// The answer to any of the questions.
+fn lookup(bundle: &[u8], row: Row, question: Question, query: &[u8]) -> Bound
+    ensures { λ r. ⌜ r ≡ bundleLookup question (now (bundle .entry)) (row .0) (now (query .entry)) ⌝ }
+{
+    let mut table = [buffers::UNREAD; WORDS];
+    match bundles::read_rows(bundle, &mut table) {
+        Opened::Rows(n) => lookups::lookup(
+            &table[..rules::WIDTH * n],
+            bundles::pool(bundle, n),
+            row,
+            question,
+            query,
+        ),
+        Opened::Refused(x) => Bound::Refused(x),
     }
 }

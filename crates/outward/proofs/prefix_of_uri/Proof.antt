@@ -1,6 +1,6 @@
 -- `outward::prefix_of_uri` meets its contract. The invariant: what is left of the path gives what the whole path gives.
 -- Assumes nothing.
-use Prim.Native.Nat.{ℕ, _≤_}
+use Prim.Native.Nat.{ℕ}
 use native.Mathlib.Omega.{arith}
 use mathlib.Core.List.{List}
 use mathlib.Core.Path.{sym, ap, _∙_}
@@ -8,8 +8,8 @@ use borrow.Author.Needs.{needs}
 use borrow.Author.Tests.{ltb-true, ltb-false}
 use lib.ListN.{length}
 use Rattle.rules.specs.Table.{nodes}
-use Rattle.rules.specs.Lookups.{located}
-use Rattle.rules.specs.declared.Located.{Located}
+use Rattle.rules.specs.Lookups.{orUnbound, bound}
+use Rattle.rules.specs.declared.Bound.{Bound}
 use Rattle.declarations.specs.Along.{Along}
 use Rattle.declarations.specs.Meant.{Meant}
 use Rattle.outward.proofs.Tests.{prefix-empty, prefix-asked}
@@ -19,7 +19,7 @@ use Rattle.outward.proofs.prefix_of_uri.Tie as tie
 
 abbrev Inv-loop : tie.InvT-loop
 Inv-loop table notes path uri number xml left₀ left =
-    Along table notes left × (length left ≤ length path) × ((pool : List ℕ) → Meant table pool notes number uri → Left table pool path (prefixLookup (nodes table pool) path uri) left)
+    Along table notes left × ((pool : List ℕ) → Meant table pool notes number uri → Left table pool path (prefixLookup (nodes table pool) path uri) left)
 
 abbrev μ-loop : tie.MeasureT-loop
 μ-loop table notes path uri number xml left₀ left = length left
@@ -31,15 +31,14 @@ is-xml-uri-requires : tie.Need-is-xml-uri-requires Inv-loop μ-loop
 is-xml-uri-requires c κs = search needs
 
 loop-holds : tie.Need-loop-holds Inv-loop μ-loop
-loop-holds c = (c .before .before .before .before .before .before .pre, omega arith, λ pool meant. left-first _ _ _ _)
+loop-holds c = (c .before .before .before .before .before .before .pre .along, λ pool meant. left-first _ _ _ _)
 
 row-at-requires : tie.Need-row-at-requires Inv-loop μ-loop
 row-at-requires c κs = c .loop-test .taken
 
 names-prefix-requires : tie.Need-names-prefix-requires Inv-loop μ-loop
 names-prefix-requires c κs =
-    let l = c .before .before in
-    (record { along = c .before .before .before .before .before .before .before .before .before .pre; start = omega (arith, c .before .loop-test .taken, l .loop .inv .1) }, left-element _ _ _ (c .before .before .loop .inv .0) (c .before .loop-test .taken) _ (c .row-at .ensures) .within)
+    (c .before .before .before .before .before .before .before .before .before .pre, left-element _ _ _ (c .before .before .loop .inv .0) (c .before .loop-test .taken) _ (c .row-at .ensures) .within)
 
 place-requires : tie.Need-place-requires Inv-loop μ-loop
 place-requires c κs = (left-element _ _ _ (c .before .before .before .before .loop .inv .0) (c .before .before .before .loop-test .taken) _ (c .before .before .row-at .ensures) .within, omega arith)
@@ -48,13 +47,12 @@ returns-2 : tie.Need-returns-2 Inv-loop μ-loop
 returns-2 c pool meant =
     let l = c .before .before .before .before .before in
     let element = left-element _ _ _ (l .loop .inv .0) (c .before .before .before .before .loop-test .taken) _ (c .before .before .before .row-at .ensures) in
-    ap Located.At (c .place .ensures)
-    ∙ ap located (left-own _ pool _ _ _ (l .loop .inv .2 pool meant) (c .before .before .before .before .loop-test .taken) _ (c .before .before .before .row-at .ensures) element (sym (c .before .before .names-prefix .ensures pool _ meant (c .before .before .before .before .before .before .is-xml-uri .ensures)) ∙ c .before .if2 .taken) ∙ prefix-asked meant _ _ (c .before .before .before .before .before .before .before .if1 .left))
+    ap Bound.At (c .place .ensures)
+    ∙ ap (λ o. bound (orUnbound o)) (left-own _ pool _ _ _ (l .loop .inv .1 pool meant) (c .before .before .before .before .loop-test .taken) _ (c .before .before .before .row-at .ensures) element (sym (c .before .before .names-prefix .ensures pool _ meant (c .before .before .before .before .before .before .is-xml-uri .ensures)) ∙ c .before .if2 .taken) ∙ prefix-asked meant _ _ (c .before .before .before .before .before .before .before .if1 .left))
 
 own-giving-requires : tie.Need-own-giving-requires Inv-loop μ-loop
 own-giving-requires c κs =
-    let l = c .before .before .before .before in
-    (record { along = c .before .before .before .before .before .before .before .before .before .before .before .pre; start = omega (arith, c .before .before .before .loop-test .taken, l .loop .inv .1) }, left-element _ _ _ (c .before .before .before .before .loop .inv .0) (c .before .before .before .loop-test .taken) _ (c .before .before .row-at .ensures))
+    (c .before .before .before .before .before .before .before .before .before .before .before .pre, left-element _ _ _ (c .before .before .before .before .loop .inv .0) (c .before .before .before .loop-test .taken) _ (c .before .before .row-at .ensures))
 
 has-row-requires : tie.Need-has-row-requires Inv-loop μ-loop
 has-row-requires c κs = search needs
@@ -66,8 +64,8 @@ returns-3 : tie.Need-returns-3 Inv-loop μ-loop
 returns-3 c pool meant =
     let l = c .before .before .before .before .before .before .before .before in
     let element = left-element _ _ _ (l .loop .inv .0) (c .before .before .before .before .before .before .before .loop-test .taken) _ (c .before .before .before .before .before .before .row-at .ensures) in
-    ap Located.At (c .place2 .ensures)
-    ∙ ap located (left-declared _ pool _ _ _ (l .loop .inv .2 pool meant) (c .before .before .before .before .before .before .before .loop-test .taken) _ (c .before .before .before .before .before .before .row-at .ensures) element (sym (c .before .before .before .before .before .names-prefix .ensures pool _ meant (c .before .before .before .before .before .before .before .before .before .is-xml-uri .ensures)) ∙ c .before .before .before .before .if2 .left) _ (c .before .before .before .own-giving .ensures pool _ meant (c .before .before .before .before .before .before .before .before .before .is-xml-uri .ensures)) (ltb-true _ _ (sym (c .before .before .has-row .ensures) ∙ c .before .if3 .taken)) ∙ prefix-asked meant _ _ (c .before .before .before .before .before .before .before .before .before .before .if1 .left))
+    ap Bound.At (c .place2 .ensures)
+    ∙ ap (λ o. bound (orUnbound o)) (left-declared _ pool _ _ _ (l .loop .inv .1 pool meant) (c .before .before .before .before .before .before .before .loop-test .taken) _ (c .before .before .before .before .before .before .row-at .ensures) element (sym (c .before .before .before .before .before .names-prefix .ensures pool _ meant (c .before .before .before .before .before .before .before .before .before .is-xml-uri .ensures)) ∙ c .before .before .before .before .if2 .left) _ (c .before .before .before .own-giving .ensures pool _ meant (c .before .before .before .before .before .before .before .before .before .is-xml-uri .ensures)) (ltb-true _ _ (sym (c .before .before .has-row .ensures) ∙ c .before .if3 .taken)) ∙ prefix-asked meant _ _ (c .before .before .before .before .before .before .before .before .before .before .if1 .left))
 
 sub-left : tie.Need-sub-left Inv-loop μ-loop
 sub-left c = omega arith
@@ -86,13 +84,12 @@ loop-again c =
     let l = c .before .before .before .before .before .before .before .before in
     let element = left-element _ _ _ (l .loop .inv .0) (c .before .before .before .before .before .before .before .loop-test .taken) _ (c .before .before .before .before .before .before .row-at .ensures) in (
       along-next _ _ _ (l .loop .inv .0),
-      omega (arith, l .loop .inv .1),
       λ pool meant.
-          left-next _ pool _ _ _ (l .loop .inv .2 pool meant) (c .before .before .before .before .before .before .before .loop-test .taken) _ (c .before .before .before .before .before .before .row-at .ensures) element (sym (c .before .before .before .before .before .names-prefix .ensures pool _ meant (c .before .before .before .before .before .before .before .before .before .is-xml-uri .ensures)) ∙ c .before .before .before .before .if2 .left) _ (c .before .before .before .own-giving .ensures pool _ meant (c .before .before .before .before .before .before .before .before .before .is-xml-uri .ensures)) (ltb-false _ _ (sym (c .before .before .has-row .ensures) ∙ c .before .if3 .left)),
+          left-next _ pool _ _ _ (l .loop .inv .1 pool meant) (c .before .before .before .before .before .before .before .loop-test .taken) _ (c .before .before .before .before .before .before .row-at .ensures) element (sym (c .before .before .before .before .before .names-prefix .ensures pool _ meant (c .before .before .before .before .before .before .before .before .before .is-xml-uri .ensures)) ∙ c .before .before .before .before .if2 .left) _ (c .before .before .before .own-giving .ensures pool _ meant (c .before .before .before .before .before .before .before .before .before .is-xml-uri .ensures)) (ltb-false _ _ (sym (c .before .before .has-row .ensures) ∙ c .before .if3 .left)),
     )
 
 returns-4 : tie.Need-returns-4 Inv-loop μ-loop
-returns-4 c pool meant = ap located (left-end _ pool _ _ _ (c .before .loop .inv .2 pool meant) (omega arith) ∙ prefix-asked meant _ _ (c .before .before .before .if1 .left))
+returns-4 c pool meant = ap (λ o. bound (orUnbound o)) (left-end _ pool _ _ _ (c .before .loop .inv .1 pool meant) (omega arith) ∙ prefix-asked meant _ _ (c .before .before .before .if1 .left))
 
 pub prefix-of-uri-spec : {M : Type 1} → statement M
 prefix-of-uri-spec =
