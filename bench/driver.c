@@ -38,15 +38,9 @@ static void keep(noemathu_found found)
 
 static void uri(void) { keep(noemathu_uri_of_prefix(bundle, length, row, query, query_length)); }
 static void prefix(void) { keep(noemathu_prefix_of_uri(bundle, length, row, query, query_length)); }
+static void default_uri(void) { keep(noemathu_default_uri(bundle, length, row)); }
 static void in_scope_uri(void) { keep(noemathu_in_scope_uri(bundle, length, row, query, query_length)); }
 static void in_scope_prefix(void) { keep(noemathu_in_scope_prefix(bundle, length, row, query, query_length)); }
-
-static void is_default(void)
-{
-    noemathu_tested tested = noemathu_is_default(bundle, length, row, query, query_length);
-    refusal = tested.refusal;
-    answer[0] = tested.yes;
-}
 
 static void normalize(void)
 {
@@ -89,7 +83,7 @@ static void copy(void)
 static const struct {
     const char *name;
     void (*run)(void);
-} operations[] = {{"check", check}, {"uri", uri}, {"prefix", prefix}, {"default", is_default},
+} operations[] = {{"check", check}, {"uri", uri}, {"prefix", prefix}, {"default", default_uri},
                   {"in_scope_uri", in_scope_uri}, {"in_scope_prefix", in_scope_prefix}, {"normalize", normalize},
                   {"read", read_bundle}, {"write", write_bundle}, {"write_xml", write_xml}, {"copy", copy}};
 

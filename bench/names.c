@@ -2,7 +2,7 @@
    for times, how much longer each function takes for URIs of 16,000 bytes that differ in the last byte than where one of
    them is a byte shorter.
    Usage: names CALL URIS LENGTH TIMES, or names times
-     CALL  default or prefix: an element's URI and the one that is asked about, without a prefix and with one;
+     CALL  prefix: an element's URI and the one that is asked about;
            check: the URIs of two attributes of one element, which have the same local name
      URIS  equal, or which byte is the only one that differs: last or first; or shorter: the second is without its last
            byte, so that no bytes are compared, and what is left is what else the call costs with as many bytes */
@@ -59,7 +59,7 @@ static void make(const char *call, const char *uris, size_t bytes)
         put_row(NOEMATHU_ATTRIBUTE, 0, 0, 2, bytes);
         put_row(NOEMATHU_ATTRIBUTE, 0, 0, 2 + bytes, other_length);
     } else {
-        put_row(NOEMATHU_ELEMENT, NOEMATHU_NONE, strcmp(call, "prefix") == 0, 2, bytes);
+        put_row(NOEMATHU_ELEMENT, NOEMATHU_NONE, 1, 2, bytes);
     }
     put('p' | 'a' << 8, 2);
     make_uri(bundle + length);
@@ -71,12 +71,6 @@ static void make(const char *call, const char *uris, size_t bytes)
 }
 
 /* Whether the URIs were found equal; -1 for a refusal that should not be. */
-static int is_default(void)
-{
-    noemathu_tested tested = noemathu_is_default(bundle, length, 0, other, other_length);
-    return tested.refusal.number ? -1 : tested.yes;
-}
-
 static int prefix(void)
 {
     noemathu_found found = noemathu_prefix_of_uri(bundle, length, 0, other, other_length);
@@ -94,7 +88,7 @@ static int check(void)
 static const struct {
     const char *name;
     int (*run)(void);
-} calls[] = {{"default", is_default}, {"prefix", prefix}, {"check", check}};
+} calls[] = {{"prefix", prefix}, {"check", check}};
 
 static double seconds(int (*run)(void))
 {

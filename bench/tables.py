@@ -387,7 +387,7 @@ def by_turns_wide(rows):
 
 def in_each_other(rows, body, declared):
     """Rows in each other below one element, of these types in turn; the last row is always an element. The names of the
-    elements below have a prefix, so that the default test goes on. What is asked for is at the top: the prefix in the top
+    elements below have a prefix, so that the default URI is looked for further. What is asked for is at the top: the prefix in the top
     element's own name, or, if it is to be declared there, with the default namespace and the prefix of the others."""
     table, last = Table(), rows - 1
     other, asked = ((table.place(PREFIXES[k]), table.place("part"), table.place(URIS[k])) for k in (0, 1))

@@ -374,12 +374,6 @@ typedef struct noemathu_found {
 #define NOEMATHU_BUILT_IN_XML 2   /* the prefix `xml`, or its URI */
 #define NOEMATHU_BUILT_IN_XMLNS 3 /* the prefix `xmlns`, or its URI */
 
-/* Yes or no. */
-typedef struct noemathu_tested {
-    noemathu_refusal refusal;
-    bool yes;
-} noemathu_tested;
-
 /* How many rows of the output table and bytes of the output pool are used. */
 typedef struct noemathu_sizes {
     noemathu_refusal refusal;
@@ -421,12 +415,10 @@ noemathu_found noemathu_uri_of_prefix(const uint8_t *bundle, size_t length, uint
 noemathu_found noemathu_prefix_of_uri(const uint8_t *bundle, size_t length, uint32_t row,
                                       const uint8_t *uri, size_t uri_length);
 
-/* Whether a URI is the default namespace at a row: whether it is the URI of the
-   empty prefix, where nothing equals the empty URI. So the empty URI is wherever
-   that finds nothing. This is isDefaultNamespace of browsers. A refusal says no.
-   Refusals: 30 to 32, 1 to 8, 12 to 14. */
-noemathu_tested noemathu_is_default(const uint8_t *bundle, size_t length, uint32_t row,
-                                    const uint8_t *uri, size_t uri_length);
+/* The default namespace at a row: what noemathu_uri_of_prefix finds for the empty
+   prefix. Found: a place or nothing, never a built-in. noemathu_default_is
+   compares it with a URI. Refusals: 30 to 32, 1 to 8, 12 to 14. */
+noemathu_found noemathu_default_uri(const uint8_t *bundle, size_t length, uint32_t row);
 
 /* The in-scope URI of a prefix at a row: by declarations alone, as a reader of
    the written XML sees it. Found: a place, nothing, or for `xml` and `xmlns` a
@@ -546,6 +538,18 @@ static inline const uint8_t *noemathu_uri(const uint8_t *bundle, noemathu_found 
         *length = 0;
         return NULL;
     }
+}
+
+/* Whether a URI is the default namespace that noemathu_default_uri has found in
+   this bundle: it is, if it has the bytes of the place. Nothing equals the empty
+   URI, which so is the default wherever nothing is found; a refusal equals no
+   URI. This is isDefaultNamespace of browsers. */
+static inline bool noemathu_default_is(const uint8_t *bundle, noemathu_found default_uri,
+                                       const uint8_t *uri, size_t uri_length)
+{
+    if (default_uri.refusal.number || default_uri.place.length != uri_length)
+        return false;
+    return uri_length == 0 || memcmp(noemathu_bytes(bundle, default_uri.place), uri, uri_length) == 0;
 }
 
 /* A word, 0 to 9, of one of its rows. */

@@ -157,6 +157,12 @@ static bool is_nothing(noemathu_found found, uint32_t number, uint32_t row)
            found.place.length == 0;
 }
 
+/* Whether a URI is the default at a row, by asking and comparing. */
+static bool default_is(const uint8_t *bundle, size_t length, uint32_t row, const uint8_t *uri, size_t uri_length)
+{
+    return noemathu_default_is(bundle, noemathu_default_uri(bundle, length, row), uri, uri_length);
+}
+
 /* All nine refuse it so, and leave their outputs zero. */
 static void refused(const uint8_t *bundle, size_t length, uint32_t number, uint32_t row)
 {
@@ -166,8 +172,9 @@ static void refused(const uint8_t *bundle, size_t length, uint32_t number, uint3
     EXPECT(is_nothing(noemathu_prefix_of_uri(bundle, length, 0, p, 1), number, row));
     EXPECT(is_nothing(noemathu_in_scope_uri(bundle, length, 0, p, 1), number, row));
     EXPECT(is_nothing(noemathu_in_scope_prefix(bundle, length, 0, p, 1), number, row));
-    noemathu_tested tested = noemathu_is_default(bundle, length, 0, p, 1);
-    EXPECT(is_refusal(tested.refusal, number, row) && !tested.yes);
+    noemathu_found default_uri = noemathu_default_uri(bundle, length, 0);
+    EXPECT(is_nothing(default_uri, number, row));
+    EXPECT(!noemathu_default_is(bundle, default_uri, NULL, 0) && !noemathu_default_is(bundle, default_uri, p, 1));
 
     lend(&out_room, NULL, 201, ENDS);
     noemathu_used used = noemathu_normalize(bundle, length, out_room.lent, out_room.length);
@@ -207,7 +214,7 @@ static void nothing_lent(void)
     EXPECT(is_nothing(noemathu_prefix_of_uri(NULL, 0, 0, NULL, 0), 30, 0));
     EXPECT(is_nothing(noemathu_in_scope_uri(NULL, 0, 0, NULL, 0), 30, 0));
     EXPECT(is_nothing(noemathu_in_scope_prefix(NULL, 0, 0, NULL, 0), 30, 0));
-    EXPECT(is_refusal(noemathu_is_default(NULL, 0, 0, NULL, 0).refusal, 30, 0));
+    EXPECT(is_nothing(noemathu_default_uri(NULL, 0, 0), 30, 0));
     EXPECT(is_refusal(noemathu_normalize(NULL, 0, NULL, 0).refusal, 30, 0));
     EXPECT(is_refusal(noemathu_read(NULL, 0, NULL, 0, NULL, 0).refusal, 30, 0));
     EXPECT(is_refusal(noemathu_write(NULL, 0, NULL, 0, NULL, 0).refusal, 33, 0));
@@ -227,8 +234,8 @@ static void nothing_lent(void)
     noemathu_found found = noemathu_uri_of_prefix(bundle_a, sizeof bundle_a, 0, NULL, 0);
     EXPECT(found.found == NOEMATHU_PLACE && found.place.offset == 1 && found.place.length == 1);
     EXPECT(is_nothing(noemathu_prefix_of_uri(bundle_a, sizeof bundle_a, 0, NULL, 0), 0, 0));
-    EXPECT(!noemathu_is_default(bundle_a, sizeof bundle_a, 0, NULL, 0).yes);
-    EXPECT(noemathu_is_default(bundle_b, sizeof bundle_b, 0, NULL, 0).yes);
+    EXPECT(!default_is(bundle_a, sizeof bundle_a, 0, NULL, 0));
+    EXPECT(default_is(bundle_b, sizeof bundle_b, 0, NULL, 0));
     EXPECT(is_refusal(noemathu_normalize(bundle_a, sizeof bundle_a, NULL, 0).refusal, 33, 0));
     EXPECT(is_refusal(noemathu_read(bundle_a, sizeof bundle_a, NULL, 0, NULL, 0).refusal, 10, 0));
     EXPECT(is_refusal(noemathu_write_xml(result_a, sizeof result_a, 0, NULL, 0).refusal, 22, 0));
@@ -388,9 +395,8 @@ static void every_question(void)
             EXPECT(found.found == NOEMATHU_PLACE && found.place.offset == 3 && found.place.length == 3);
             found = noemathu_in_scope_prefix(bundle, length, 1, uri, 1);
             EXPECT(found.found == NOEMATHU_PLACE && found.place.offset == 3 && found.place.length == 3);
-            noemathu_tested tested = noemathu_is_default(bundle, length, 1, uri, 1);
-            EXPECT(is_refusal(tested.refusal, 0, 0) && !tested.yes);
-            EXPECT(is_refusal(noemathu_is_default(bundle, length, 3, uri, 1).refusal, 8, 0));
+            EXPECT(is_nothing(noemathu_default_uri(bundle, length, 1), 0, 0) && !default_is(bundle, length, 1, uri, 1));
+            EXPECT(is_nothing(noemathu_default_uri(bundle, length, 3), 8, 0) && !default_is(bundle, length, 3, uri, 1));
             take_back(&query_room);
         }
         EXPECT(noemathu_in_scope_uri(bundle_room.lent, sizeof result_b, 0, (const uint8_t *)"xml", 3).found ==
@@ -457,7 +463,7 @@ static void expect_judged(const uint32_t *table, const uint8_t *pool, size_t byt
     EXPECT(is_field_refusal(noemathu_check(bundle_room.lent, length), number, row, word));
     EXPECT(is_field_refusal(noemathu_uri_of_prefix(bundle_room.lent, length, 0, NULL, 0).refusal, number, row, word));
     EXPECT(is_field_refusal(noemathu_prefix_of_uri(bundle_room.lent, length, 0, NULL, 0).refusal, number, row, word));
-    EXPECT(is_field_refusal(noemathu_is_default(bundle_room.lent, length, 0, NULL, 0).refusal, number, row, word));
+    EXPECT(is_field_refusal(noemathu_default_uri(bundle_room.lent, length, 0).refusal, number, row, word));
     EXPECT(is_field_refusal(noemathu_in_scope_uri(bundle_room.lent, length, 0, NULL, 0).refusal, number, row, word));
     EXPECT(is_field_refusal(noemathu_in_scope_prefix(bundle_room.lent, length, 0, NULL, 0).refusal, number, row, word));
     used = noemathu_normalize(bundle_room.lent, length, out, sizeof out);
@@ -963,16 +969,15 @@ static void built_ins(void)
         EXPECT(is_uri(bundle, noemathu_uri_of_prefix(bundle, used.bytes, asked, xmlns, 4), NOEMATHU_NOTHING, ""));
         EXPECT(is_uri(bundle, noemathu_prefix_of_uri(bundle, used.bytes, asked, xml_uri, 36), NOEMATHU_PLACE, "xml"));
         EXPECT(is_nothing(noemathu_prefix_of_uri(bundle, used.bytes, asked, xmlns_uri, 29), 0, 0));
-        EXPECT(noemathu_is_default(bundle, used.bytes, asked, NULL, 0).yes);
-        EXPECT(!noemathu_is_default(bundle, used.bytes, asked, xml_uri, 36).yes);
+        EXPECT(default_is(bundle, used.bytes, asked, NULL, 0));
+        EXPECT(!default_is(bundle, used.bytes, asked, xml_uri, 36));
     }
     EXPECT(is_uri(bundle, noemathu_uri_of_prefix(bundle, used.bytes, 2, xml, 3), NOEMATHU_NOTHING, ""));
     EXPECT(is_uri(bundle, noemathu_uri_of_prefix(bundle, used.bytes, 2, xmlns, 5), NOEMATHU_NOTHING, ""));
     EXPECT(is_nothing(noemathu_prefix_of_uri(bundle, used.bytes, 2, xml_uri, 36), 0, 0));
-    EXPECT(noemathu_is_default(bundle, used.bytes, 2, NULL, 0).yes);
-    EXPECT(!noemathu_is_default(bundle, used.bytes, 2, u, 1).yes);
-    noemathu_tested refused = noemathu_is_default(bundle, used.bytes, 3, NULL, 0);
-    EXPECT(is_refusal(refused.refusal, 8, 0) && !refused.yes);
+    EXPECT(default_is(bundle, used.bytes, 2, NULL, 0));
+    EXPECT(!default_is(bundle, used.bytes, 2, u, 1));
+    EXPECT(is_nothing(noemathu_default_uri(bundle, used.bytes, 3), 8, 0) && !default_is(bundle, used.bytes, 3, NULL, 0));
 }
 
 static void helpers(void)
@@ -1015,7 +1020,7 @@ static void run_nothing(void) {}
 static void run_check(void) { EXPECT(noemathu_check(large, large_length).number == 0); }
 static void run_uri(void) { noemathu_uri_of_prefix(large, large_length, 1023, (const uint8_t *)"p", 1); }
 static void run_prefix(void) { noemathu_prefix_of_uri(large, large_length, 1023, (const uint8_t *)"U", 1); }
-static void run_default(void) { noemathu_is_default(large, large_length, 1023, (const uint8_t *)"U", 1); }
+static void run_default(void) { noemathu_default_uri(large, large_length, 1023); }
 static void run_in_scope_uri(void) { noemathu_in_scope_uri(large, large_length, 1023, (const uint8_t *)"p", 1); }
 static void run_in_scope_prefix(void) { noemathu_in_scope_prefix(large, large_length, 1023, (const uint8_t *)"U", 1); }
 static void run_normalize(void) { noemathu_normalize(large, large_length, large_out, sizeof large_out); }

@@ -6,7 +6,8 @@ A bundle, a pool and a query are strings of bytes, a table is a sequence of word
     check(bundle) -> (number, row, word)
     uri_of_prefix(bundle, row, query) -> (number, row, word, found, offset, length)
     prefix_of_uri(bundle, row, query) -> (number, row, word, found, offset, length)
-    is_default(bundle, row, query) -> (number, row, word, yes)
+    default_uri(bundle, row) -> (number, row, word, found, offset, length)
+    default_is(bundle, row, query) -> (number, row, word, yes): by asking for the default URI and comparing
     in_scope_uri(bundle, row, query) -> (number, row, word, found, offset, length)
     in_scope_prefix(bundle, row, query) -> (number, row, word, found, offset, length)
     normalize(bundle, out_size) -> (number, row, word, bytes, out)
@@ -104,10 +105,10 @@ def check(bundle):
         return refused.refusal
 
 
-def found(bundle, lookup, row, query):
+def found(bundle, lookup, *asked):
     """What a lookup finds that answers no built-in."""
     try:
-        *refusal, offset, length = lookup(*split(bundle), row, query)
+        *refusal, offset, length = lookup(*split(bundle), *asked)
     except Refused as refused:
         return (*refused.refusal, FOUND["none"], 0, 0)
     return (*refusal, FOUND["place" if length else "none"], offset, length)
@@ -117,9 +118,13 @@ def prefix_of_uri(bundle, row, query):
     return found(bundle, reading.prefix_of_uri, row, query)
 
 
-def is_default(bundle, row, query):
+def default_uri(bundle, row):
+    return found(bundle, reading.default_uri, row)
+
+
+def default_is(bundle, row, query):
     try:
-        return reading.is_default(*split(bundle), row, query)
+        return reading.default_is(*split(bundle), row, query)
     except Refused as refused:
         return (*refused.refusal, False)
 

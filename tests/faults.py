@@ -100,6 +100,22 @@ def unprefixed_decides():
     reading.default_from = default_from
 
 
+def default_by_declarations():
+    """The default URI is looked for by declarations alone."""
+    reading.default_uri_from = lambda tree, start, query: reading.scope_uri(tree, start, query).field
+
+
+def empty_default_passed_over():
+    """Where the default is declared empty, the default URI is looked for further outward."""
+    def default_uri_from(tree, start, query):
+        for element in reading.outward(tree, start):
+            found = reading.uri_from(tree, element, query)
+            if found.field.text != b"":
+                return found.field
+        return reading.EMPTY
+    reading.default_uri_from = default_uri_from
+
+
 def names_by_offset():
     """The rows of one owner are doubles only where their names stand at one place."""
     reading.wrong_double = lambda tree, row: any(
@@ -503,6 +519,7 @@ def declared_values_not_tried():
 FAULTS = {fault.__name__: fault for fault in (
     shadowed_prefix, shadowed_own_prefix, element_by_uri_lookup, default_serves_attribute, bound_prefix_declared,
     declared_xml, xmlns_not_built_in, built_in_without_start, nothing_is_no_default, unprefixed_decides,
+    default_by_declarations, empty_default_passed_over,
     names_by_offset, fields_before_structure, offset_before_pool, empty_in_first_pass,
     pool_before_offsets, fields_after_names, encoding_after_names, encoding_with_empty, surrogates_accepted,
     values_not_decoded, length_word, last_field, bytes_before_rows, shared_bytes, big_endian, zero_byte_not_seen,

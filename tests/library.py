@@ -32,10 +32,6 @@ class Found(ctypes.Structure):
     _fields_ = [("refusal", Refusal), ("found", WORD), ("place", Place)]
 
 
-class Tested(ctypes.Structure):
-    _fields_ = [("refusal", Refusal), ("yes", ctypes.c_bool)]
-
-
 class Sizes(ctypes.Structure):
     _fields_ = [("refusal", Refusal), ("rows", SIZE), ("bytes", SIZE)]
 
@@ -52,7 +48,7 @@ FUNCTIONS = {
     "check": (BUFFER, Refusal),
     "uri_of_prefix": (LOOKUP, Found),
     "prefix_of_uri": (LOOKUP, Found),
-    "is_default": (LOOKUP, Tested),
+    "default_uri": (BUFFER + [WORD], Found),
     "in_scope_uri": (LOOKUP, Found),
     "in_scope_prefix": (LOOKUP, Found),
     "normalize": (BUFFER * 2, Used),
@@ -61,8 +57,14 @@ FUNCTIONS = {
     "write_xml": (BUFFER + [WORD] + BUFFER, Used),
 }
 
-# The header's own function, made callable.
-HELPERS = "#include <noemathu.h>\nsize_t xml_room(const uint8_t *bundle) { return noemathu_xml_room(bundle); }\n"
+# The header's own functions, made callable.
+HELPERS = """#include <noemathu.h>
+size_t xml_room(const uint8_t *bundle) { return noemathu_xml_room(bundle); }
+bool default_is(const uint8_t *bundle, noemathu_found default_uri, const uint8_t *uri, size_t uri_length)
+{
+    return noemathu_default_is(bundle, default_uri, uri, uri_length);
+}
+"""
 
 MARGIN = 64
 MOST = 1 << 18
@@ -111,6 +113,8 @@ class Library:
         loaded = ctypes.CDLL(shared)
         self.room_for_text = loaded.xml_room
         self.room_for_text.argtypes, self.room_for_text.restype = [BYTES], SIZE
+        self.compare_default = loaded.default_is
+        self.compare_default.argtypes, self.compare_default.restype = [BYTES, Found, ctypes.c_char_p, SIZE], ctypes.c_bool
         self.functions = {}
         for operation, (parameters, result) in FUNCTIONS.items():
             function = getattr(loaded, "noemathu_" + operation)
@@ -141,9 +145,15 @@ class Library:
         answer = self.functions[operation](*self.lent["bundle"], row, query if query else None, len(query))
         return (*answer.refusal.given(), answer.found, answer.place.offset, answer.place.length)
 
-    def is_default(self, operation, row, query):
-        answer = self.functions[operation](*self.lent["bundle"], row, query if query else None, len(query))
-        return (*answer.refusal.given(), answer.yes)
+    def default_uri(self, operation, row):
+        answer = self.functions[operation](*self.lent["bundle"], row)
+        return (*answer.refusal.given(), answer.found, answer.place.offset, answer.place.length)
+
+    def default_is(self, operation, row, query):
+        """The default URI is asked for, and compared as the header does."""
+        answer = self.functions["default_uri"](*self.lent["bundle"], row)
+        yes = self.compare_default(self.lent["bundle"][0], answer, query if query else None, len(query))
+        return (*answer.refusal.given(), yes)
 
     def normalize(self, operation, size):
         answer = self.functions[operation](*self.lent["bundle"], *self.rooms["out"].lend(size, self.shift))

@@ -6,7 +6,8 @@ A table is a sequence of words, a pool a string of bytes, a row a number, a quer
     check(table, pool) -> (number, row, word)
     uri_of_prefix(table, pool, row, query) -> (number, row, word, kind, offset, length)
     prefix_of_uri(table, pool, row, query) -> (number, row, word, offset, length)
-    is_default(table, pool, row, query) -> (number, row, word, yes)
+    default_uri(table, pool, row) -> (number, row, word, offset, length)
+    default_is(table, pool, row, query) -> (number, row, word, yes)
     in_scope_uri(table, pool, row, query) -> (number, row, word, kind, offset, length)
     in_scope_prefix(table, pool, row, query) -> (number, row, word, kind, offset, length)
     normalize(table, pool, out_words, out_bytes) -> (number, row, word, rows, bytes, out_table, out_pool)
@@ -389,6 +390,11 @@ def prefix_from(tree, start, uri):
     return EMPTY
 
 
+def default_uri_from(tree, start, query):
+    """The URI of the empty prefix, which the query is."""
+    return uri_from(tree, start, query).field
+
+
 def default_from(tree, start, uri):
     """Yes exactly if the URI of the empty prefix equals the query, where nothing equals empty."""
     return uri_from(tree, start, b"").field.text == uri
@@ -454,7 +460,12 @@ def prefix_of_uri(table, pool, row, query):
     return (*refusal, found.offset, found.length) if found else (*refusal, 0, 0)
 
 
-def is_default(table, pool, row, query):
+def default_uri(table, pool, row):
+    refusal, found = asked(table, pool, row, b"", default_uri_from)
+    return (*refusal, found.offset, found.length) if found else (*refusal, 0, 0)
+
+
+def default_is(table, pool, row, query):
     refusal, yes = asked(table, pool, row, query, default_from)
     return (*refusal, bool(yes))
 
