@@ -1,16 +1,14 @@
--- What is left to put of a content, piece by piece: on the way into the elements and out of them again.
+-- What is left to put of an element, piece by piece: on the way into the elements and out of them again.
 -- Assumes nothing.
 use Prim.Native.Nat.{ℕ, zero, suc, _+_, _-_, _≤_, _<_}
 use mathlib.Core.Path.{_≡_, refl, sym, ap, subst, _∙_}
-use mathlib.Core.Bool.{true, false, _||_}
-use mathlib.Core.List.{List, [], _∷_, _++_, append-nil, append-assoc}
+use mathlib.Core.Bool.{true, false}
+use mathlib.Core.List.{List, [], _∷_, _++_, append-assoc}
 use native.Mathlib.Omega.{arith}
-use lib.Dec.{ltb}
-use borrow.Author.Tests.{eq-eqb, ne-eqb, ltb-true, ltb-false}
+use borrow.Author.Tests.{eq-eqb, ne-eqb}
 use lib.ListN.{length}
 use Rattle.rules.specs.Lists.{gathered}
 use Rattle.rules.specs.Table.{TYPE, PARENT, ELEMENT, nodes, nodeAt, rowCount, word}
-use Rattle.rules.proofs.Lists.{both-false}
 use Rattle.rules.proofs.Table.{length-nodes, node-nodes}
 use Rattle.notes.specs.Notes.{LATEST, noteAt}
 use Rattle.buffers.specs.Writes.{Put}
@@ -29,7 +27,7 @@ pieces nothing = []
 pieces (text value following) = escaped false value ∷ pieces following
 pieces (element name attributes inside following) = startTag name attributes ∷ (pieces inside ++ (endTag name ∷ pieces following))
 
-abbrev whole : List ℕ → List ℕ
+abbrev pub whole : List ℕ → List ℕ
 whole piece = piece
 
 pieces-markup : (c : Content Qualified) → gathered whole (pieces c) ≡ markup c
@@ -45,17 +43,25 @@ pieces-markup (element name attributes inside following) =
     ∙ sym (append-assoc start (markup inside) (end ++ markup following))
     ∙ sym (append-assoc (start ++ markup inside) end (markup following))
 
--- While there is a row or an element to leave, the walk goes on.
-module _ (position depth : ℕ) where
-  pub goes-on : (ltb 0 position || ltb 0 depth) ≡ true → position ≡ 0 → 0 < depth
-  goes-on t z = ltb-true 0 depth (subst (λ p. (ltb 0 p || ltb 0 depth) ≡ true) z t)
+-- The pieces that are left, put from `to` on, make the whole that is put from `at` of the output at first.
+pub record Left (all out₀ : List ℕ) (at : ℕ) (out : List ℕ) (to : ℕ) (ahead : List (List ℕ)) : Type 0 where
+  pub size : length out ≡ length out₀
+  pub more : {r : ℕ} {out′ : List ℕ} → Put out to (gathered whole ahead) r out′ → Put out₀ at all r out′
 
-  pub ends : (ltb 0 position || ltb 0 depth) ≡ false → (position ≡ 0) × (depth ≡ 0)
-  ends f =
-      let both = both-false (ltb 0 position) (ltb 0 depth) f in
-      let none = ltb-false 0 position (both .0) in
-      let top = ltb-false 0 depth (both .1) in
-      (omega arith, omega arith)
+-- At first all are left.
+left-all : (ahead : List (List ℕ)) (out : List ℕ) (at : ℕ) → Left (gathered whole ahead) out at out at ahead
+left-all ahead out at = record { size = refl; more = λ p. p }
+
+module _ {all out₀ : List ℕ} {at : ℕ} {out : List ℕ} {to : ℕ} where
+  pub left-none : Left all out₀ at out to [] → Put out₀ at all to out
+  left-none l = l .more (put-nothing out to)
+
+  -- The first of them is put, and some of the others.
+  left-through : {piece : List ℕ} {others ahead : List (List ℕ)} {to₁ to₂ : ℕ} {out₁ out₂ : List ℕ} → Left all out₀ at out to (piece ∷ others) → Put out to piece to₁ out₁ → Left (gathered whole others) out₁ to₁ out₂ to₂ ahead → Left all out₀ at out₂ to₂ ahead
+  left-through l p m = record { size = m .size ∙ p .size ∙ l .size; more = λ q. l .more (put-behind p (m .more q)) }
+
+  left-next : {ahead : List (List ℕ)} (piece : List ℕ) (others : List (List ℕ)) → ahead ≡ piece ∷ others → {to₁ : ℕ} {out₁ : List ℕ} → Left all out₀ at out to ahead → Put out to piece to₁ out₁ → Left all out₀ at out₁ to₁ others
+  left-next piece others is {to₁} {out₁} l p = left-through (subst (Left all out₀ at out to) is l) p (left-all others out₁ to₁)
 
 module _ (table pool links : List ℕ) where
   abbrev n : ℕ
@@ -64,21 +70,31 @@ module _ (table pool links : List ℕ) where
   abbrev parent : ℕ → ℕ
   parent e = word table e PARENT
 
+  abbrev pub tree : ℕ → Content Qualified
+  tree e = writtenTree (nodes table pool) e
+
+  abbrev start : ℕ → List ℕ
+  start e = startTag (qualifiedName (nodeAt table pool e)) (writtenAttributes (nodes table pool) e)
+
   abbrev end : ℕ → List ℕ
   end e = endTag (qualifiedName (nodeAt table pool e))
 
-  -- what follows the content of row e, as many elements outward
+  -- what follows the end tag of row e, as many elements outward
   unfoldable pub after : ℕ → ℕ → List (List ℕ)
   after zero e = []
-  after (suc depth) e = end e ∷ (pieces (items table pool n (parent e) (noteAt links e (LATEST + 1))) ++ after depth (parent e))
+  after (suc depth) e = pieces (items table pool n (parent e) (noteAt links e (LATEST + 1))) ++ (end (parent e) ∷ after depth (parent e))
 
   -- what is left from a position in the content of row e on
   unfoldable pub rest : ℕ → ℕ → ℕ → List (List ℕ)
-  rest depth e position = pieces (items table pool n e position) ++ after depth e
+  rest depth e position = pieces (items table pool n e position) ++ (end e ∷ after depth e)
 
-  rest-none : (e position : ℕ) → position ≡ 0 → rest 0 e position ≡ []
+  -- what is left from the start tag of row e on
+  abbrev pub opened : ℕ → ℕ → List (List ℕ)
+  opened depth e = start e ∷ rest depth e (noteAt links e LATEST)
+
+  rest-last : (e position : ℕ) → position ≡ 0 → rest 0 e position ≡ end e ∷ []
   unfolding rest after pieces
-  rest-none e position z = rw (none-items table pool n e position z) refl
+  rest-last e position z = rw (none-items table pool n e position z) refl
 
   rest-out : (depth e position : ℕ) → position ≡ 0 → rest (suc depth) e position ≡ end e ∷ rest depth (parent e) (noteAt links e (LATEST + 1))
   unfolding rest after pieces
@@ -91,25 +107,24 @@ module _ (table pool links : List ℕ) where
     rest-over : (next : ℕ) → next ≡ noteAt links (before position) (LATEST + 1) → (word table (before position) TYPE ≡ ELEMENT → ⊥) → rest depth e position ≡ escaped false (nodeAt table pool (before position) .value .bytes) ∷ rest depth e next
     unfolding rest pieces
     rest-over next link other =
-        ap (λ c. pieces c ++ after depth e) (next-items table pool links linked e row position h here next link n)
+        ap (λ c. pieces c ++ (end e ∷ after depth e)) (next-items table pool links linked e row position h here next link n)
         ∙ rw (node-nodes table pool (before position) inner, ne-eqb (word table (before position) TYPE) ELEMENT other) refl
 
-    rest-in :
-        (first : ℕ) → first ≡ noteAt links (before position) LATEST → word table (before position) TYPE ≡ ELEMENT
-        → rest depth e position ≡ startTag (qualifiedName (nodeAt table pool (before position))) (writtenAttributes (nodes table pool) (before position)) ∷ rest (suc depth) (before position) first
+    rest-in : word table (before position) TYPE ≡ ELEMENT → rest depth e position ≡ opened (suc depth) (before position)
     unfolding rest after pieces
-    rest-in first head is =
+    rest-in is =
         let r = before position in
+        let first = noteAt links r LATEST in
         let next = noteAt links r (LATEST + 1) in
-        let start = startTag (qualifiedName (nodeAt table pool r)) (writtenAttributes (nodes table pool) r) in
         let follows = end r ∷ pieces (items table pool n e next) in
-        let item : pieces (items table pool n e position) ≡ start ∷ (pieces (content table pool n r) ++ follows) =
+        let outer = end e ∷ after depth e in
+        let item : pieces (items table pool n e position) ≡ start r ∷ (pieces (content table pool n r) ++ follows) =
         ap pieces (next-items table pool links linked e row position h here next refl n)
         ∙ rw (node-nodes table pool r inner, eq-eqb (word table r TYPE) ELEMENT is) refl in
-        ap (λ l. l ++ after depth e) item
-        ∙ ap (λ l. start ∷ l) (append-assoc (pieces (content table pool n r)) follows (after depth e))
-        ∙ ap (λ c. start ∷ (pieces c ++ (follows ++ after depth e))) (content-items table pool links linked r inner first head)
-        ∙ ap (λ x. start ∷ (pieces (items table pool n r first) ++ (end r ∷ (pieces (items table pool n x next) ++ after depth x)))) (sym (parent-is table pool links linked e position (here .own h)))
+        ap (λ l. l ++ outer) item
+        ∙ ap (λ l. start r ∷ l) (append-assoc (pieces (content table pool n r)) follows outer)
+        ∙ ap (λ c. start r ∷ (pieces c ++ (follows ++ outer))) (content-items table pool links linked r inner first refl)
+        ∙ ap (λ x. start r ∷ (pieces (items table pool n r first) ++ (end r ∷ (pieces (items table pool n x next) ++ (end x ∷ after depth x))))) (sym (parent-is table pool links linked e position (here .own h)))
 
   -- Row e stands in the content of its parent, and so outward.
   abbrev Under : ℕ → ℕ → Type 0
@@ -125,102 +140,106 @@ module _ (table pool links : List ℕ) where
         let outer = few-deep depth (parent e) (under .0) (under .2) in
         omega arith
 
-    -- What is left, put from `to` on, is the content of row `top` put from `at` of the output at first.
-    pub record Left (top : ℕ) (out₀ : List ℕ) (at : ℕ) (out : List ℕ) (to e depth position : ℕ) : Type 0 where
+    -- Row e is the next element to put.
+    pub record Ready (all out₀ : List ℕ) (at : ℕ) (out : List ℕ) (to e depth : ℕ) : Type 0 where
       pub row : e < n
       pub under : Under depth e
-      pub here : Here table pool links linked e row position
-      pub size : length out ≡ length out₀
-      pub more : {r : ℕ} {out′ : List ℕ} → Put out to (gathered whole (rest depth e position)) r out′ → Put out₀ at (markup (content table pool n top)) r out′
+      pub left : Left all out₀ at out to (opened depth e)
 
-    rest-all : (top : ℕ) → top < n → (position : ℕ) → position ≡ noteAt links top LATEST → gathered whole (rest 0 top position) ≡ markup (content table pool n top)
-    unfolding rest after
-    rest-all top row position head =
-        ap (gathered whole) (append-nil (pieces (items table pool n top position)))
-        ∙ pieces-markup (items table pool n top position)
-        ∙ ap markup (sym (content-items table pool links linked top row position head))
+    tree-opened : (top : ℕ) → top < n → pieces (tree top) ≡ opened 0 top
+    unfolding rest after pieces writtenTree
+    tree-opened top row =
+        rw (length-nodes table pool, node-nodes table pool top row)
+        (ap (λ c. start top ∷ (pieces c ++ (end top ∷ []))) (content-items table pool links linked top row (noteAt links top LATEST) refl))
 
-    pub left-start : (top : ℕ) (row : top < n) (out : List ℕ) (at position : ℕ) → position ≡ noteAt links top LATEST → Left top out at out at top 0 position
-    left-start top row out at position head =
+    pub ready-start : (top : ℕ) → top < n → (out : List ℕ) (at : ℕ) → Ready (markup (tree top)) out at out at top 0
+    ready-start top row out at =
+        let same : gathered whole (opened 0 top) ≡ markup (tree top) = ap (gathered whole) (sym (tree-opened top row)) ∙ pieces-markup (tree top) in
         record {
           row = row;
           under = tt;
-          here = here-first table pool links linked top row position head;
-          size = refl;
-          more = λ {r} {out′} p. subst (λ l. Put out at l r out′) (rest-all top row position head) p;
+          left = record { size = refl; more = λ {r} {out′} p. subst (λ l. Put out at l r out′) same p };
         }
 
-    module _ {top : ℕ} {out₀ : List ℕ} {at : ℕ} {out : List ℕ} {to e depth position : ℕ} (l : Left top out₀ at out to e depth position) where
-      pub left-deep : depth ≤ e
-      left-deep = few-deep depth e (l .row) (l .under)
+    pub ready-deep : {all out₀ : List ℕ} {at : ℕ} {out : List ℕ} {to e depth : ℕ} → Ready all out₀ at out to e depth → depth ≤ e
+    ready-deep {all} {out₀} {at} {out} {to} {e} {depth} l = few-deep depth e (l .row) (l .under)
 
-      pub left-end : position ≡ 0 → depth ≡ 0 → Put out₀ at (markup (content table pool n top)) to out
-      left-end z d = l .more (subst (λ m. Put out to (gathered whole m) to out) (sym (ap (λ k. rest k e position) d ∙ rest-none e position z)) (put-nothing out to))
+    -- A position in the content of row e comes next.
+    pub record Inside (all out₀ : List ℕ) (at : ℕ) (out : List ℕ) (to e depth position : ℕ) : Type 0 where
+      pub row : e < n
+      pub under : Under depth e
+      pub here : Here table pool links linked e row position
+      pub left : Left all out₀ at out to (rest depth e position)
 
-      -- What is left begins with a piece, and that one is put.
-      step : {piece : List ℕ} {others : List (List ℕ)} {r to′ : ℕ} {out′ out″ : List ℕ} → rest depth e position ≡ piece ∷ others → Put out to piece to′ out′ → Put out′ to′ (gathered whole others) r out″ → Put out₀ at (markup (content table pool n top)) r out″
-      step {piece} {others} {r} {to′} {out′} {out″} s p q = l .more (subst (λ m. Put out to (gathered whole m) r out″) (sym s) (put-behind p q))
+    -- Behind a start tag.
+    module _ {all out₀ : List ℕ} {at : ℕ} {out : List ℕ} {to e depth : ℕ} (ready : Ready all out₀ at out to e depth) (first : ℕ) (head : first ≡ noteAt links e LATEST) (k : ℕ) (same : k ≡ depth) where
+      pub inside-start : (out₁ : List ℕ) (to₁ : ℕ) → Inside (gathered whole (rest k e first)) out₁ to₁ out₁ to₁ e k first
+      inside-start out₁ to₁ =
+          record {
+            row = ready .row;
+            under = rw same (ready .under);
+            here = here-first table pool links linked e (ready .row) first head;
+            left = left-all (rest k e first) out₁ to₁;
+          }
 
+      pub rest-less : length (rest k e first) < length (opened depth e)
+      rest-less = rw (same, head) (omega arith)
+
+      -- What was left there is what is left of the whole.
+      pub through : {out₁ out₂ : List ℕ} {to₁ to₂ : ℕ} {ahead : List (List ℕ)} → Put out to (start e) to₁ out₁ → Left (gathered whole (rest k e first)) out₁ to₁ out₂ to₂ ahead → Left all out₀ at out₂ to₂ ahead
+      through {out₁} {out₂} {to₁} {to₂} {ahead} p l = left-through (ready .left) p (subst (λ m. Left (gathered whole m) out₁ to₁ out₂ to₂ ahead) (ap (λ d. rest d e first) same ∙ ap (rest depth e) head) l)
+
+    module _ {all out₀ : List ℕ} {at : ℕ} {out : List ℕ} {to e depth position : ℕ} (l : Inside all out₀ at out to e depth position) where
       -- Out of an element.
-      module _ (z : position ≡ 0) (d : 0 < depth) (next : ℕ) (link : next ≡ noteAt links e (LATEST + 1)) (owner : ℕ) (is : owner ≡ parent e) where
-        deeper : depth ≡ suc (depth - 1)
-        deeper = omega arith
+      module _ (z : position ≡ 0) where
+        pub inside-end : depth ≡ 0 → {out′ : List ℕ} {to′ : ℕ} → Put out to (end e) to′ out′ → Left all out₀ at out′ to′ []
+        inside-end d p = left-next (end e) [] (ap (λ k. rest k e position) d ∙ rest-last e position z) (l .left) p
 
-        out-step : rest depth e position ≡ end e ∷ rest (depth - 1) owner next
-        out-step =
-            ap (λ k. rest k e position) deeper ∙ rest-out (depth - 1) e position z
-            ∙ ap (λ x. end e ∷ rest (depth - 1) x (noteAt links e (LATEST + 1))) (sym is)
-            ∙ ap (λ x. end e ∷ rest (depth - 1) owner x) (sym link)
+        module _ (d : depth ≡ 0 → ⊥) (next : ℕ) (link : next ≡ noteAt links e (LATEST + 1)) (owner : ℕ) (is : owner ≡ parent e) where
+          deeper : depth ≡ suc (depth - 1)
+          deeper = omega arith
 
-        pub out-less : length (rest (depth - 1) owner next) < length (rest depth e position)
-        out-less = rw out-step (omega arith)
+          out-step : rest depth e position ≡ end e ∷ rest (depth - 1) owner next
+          out-step =
+              ap (λ k. rest k e position) deeper ∙ rest-out (depth - 1) e position z
+              ∙ ap (λ x. end e ∷ rest (depth - 1) x (noteAt links e (LATEST + 1))) (sym is)
+              ∙ ap (λ x. end e ∷ rest (depth - 1) owner x) (sym link)
 
-        pub left-out : {out′ : List ℕ} {to′ : ℕ} → Put out to (end e) to′ out′ → Left top out₀ at out′ to′ owner (depth - 1) next
-        left-out p =
-            let under = subst (λ k. Under k e) deeper (l .under) in
-            let outer : owner < n = rw is (under .0) in
-            let place : e + 1 - 1 ≡ e = omega arith in
-            let own : isUnder false table owner (e + 1) ≡ true = ap (λ x. isUnder false table x (e + 1)) is ∙ under .1 in
-            let row : e < n = l .row in
-            let back : Here table pool links linked owner outer (e + 1) = record { within = omega arith; own = λ h. own } in
-            record {
-              row = outer;
-              under = rw is (under .2);
-              here = here-next table pool links linked owner outer (e + 1) (omega arith) back next (rw place link);
-              size = p .size ∙ l .size;
-              more = λ q. step out-step p q;
-            }
+          pub out-less : length (rest (depth - 1) owner next) < length (rest depth e position)
+          out-less = rw out-step (omega arith)
+
+          pub inside-out : {out′ : List ℕ} {to′ : ℕ} → Put out to (end e) to′ out′ → Inside all out₀ at out′ to′ owner (depth - 1) next
+          inside-out p =
+              let under = subst (λ k. Under k e) deeper (l .under) in
+              let outer : owner < n = rw is (under .0) in
+              let place : e + 1 - 1 ≡ e = omega arith in
+              let own : isUnder false table owner (e + 1) ≡ true = ap (λ x. isUnder false table x (e + 1)) is ∙ under .1 in
+              let row : e < n = l .row in
+              let back : Here table pool links linked owner outer (e + 1) = record { within = omega arith; own = λ h. own } in
+              record {
+                row = outer;
+                under = rw is (under .2);
+                here = here-next table pool links linked owner outer (e + 1) (omega arith) back next (rw place link);
+                left = left-next (end e) (rest (depth - 1) owner next) out-step (l .left) p;
+              }
 
       module _ (h : 0 < position) where
-        pub left-inner : before position < n
-        left-inner = inner linked depth e (l .row) position h (l .here)
+        pub inside-row : before position < n
+        inside-row = inner linked depth e (l .row) position h (l .here)
 
-        -- Into an element.
-        module _ (is : word table (before position) TYPE ≡ ELEMENT) (first : ℕ) (head : first ≡ noteAt links (before position) LATEST) where
-          in-step : rest depth e position ≡ startTag (qualifiedName (nodeAt table pool (before position))) (writtenAttributes (nodes table pool) (before position)) ∷ rest (depth + 1) (before position) first
-          in-step =
-              let deeper : suc depth ≡ depth + 1 = omega arith in
-              rest-in linked depth e (l .row) position h (l .here) first head is
-              ∙ ap (λ k. startTag (qualifiedName (nodeAt table pool (before position))) (writtenAttributes (nodes table pool) (before position)) ∷ rest k (before position) first) deeper
+        -- To an element.
+        module _ (is : word table (before position) TYPE ≡ ELEMENT) where
+          pub in-same : rest depth e position ≡ opened (suc depth) (before position)
+          in-same = rest-in linked depth e (l .row) position h (l .here) is
 
-          pub in-less : length (rest (depth + 1) (before position) first) < length (rest depth e position)
-          in-less = rw in-step (omega arith)
-
-          pub left-in : {out′ : List ℕ} {to′ : ℕ} → Put out to (startTag (qualifiedName (nodeAt table pool (before position))) (writtenAttributes (nodes table pool) (before position))) to′ out′ → Left top out₀ at out′ to′ (before position) (depth + 1) first
-          left-in p =
-              let deeper : suc depth ≡ depth + 1 = omega arith in
-              let place : position ≡ before position + 1 = omega arith in
+          pub inside-in : Under (suc depth) (before position)
+          inside-in =
               let r = before position in
+              let place : position ≡ r + 1 = omega arith in
               let owner : e ≡ parent r = sym (parent-is table pool links linked e position (l .here .own h)) in
               let own : isUnder false table (parent r) (r + 1) ≡ true =
               ap (λ x. isUnder false table x (r + 1)) (sym owner) ∙ ap (λ x. isUnder false table e x) (sym place) ∙ l .here .own h in
-              record {
-                row = left-inner;
-                under = subst (λ k. Under k r) deeper (subst (λ x. x < n) owner (l .row), own, subst (λ x. Under depth x) owner (l .under));
-                here = here-first table pool links linked r left-inner first head;
-                size = p .size ∙ l .size;
-                more = λ q. step in-step p q;
-              }
+              (subst (λ x. x < n) owner (l .row), own, subst (λ x. Under depth x) owner (l .under))
 
         -- Over a text.
         module _ (other : word table (before position) TYPE ≡ ELEMENT → ⊥) (next : ℕ) (link : next ≡ noteAt links (before position) (LATEST + 1)) where
@@ -230,22 +249,25 @@ module _ (table pool links : List ℕ) where
           pub over-less : length (rest depth e next) < length (rest depth e position)
           over-less = rw over-step (omega arith)
 
-          pub left-over : {out′ : List ℕ} {to′ : ℕ} → Put out to (escaped false (nodeAt table pool (before position) .value .bytes)) to′ out′ → Left top out₀ at out′ to′ e depth next
-          left-over p =
+          pub inside-over : {out′ : List ℕ} {to′ : ℕ} → Put out to (escaped false (nodeAt table pool (before position) .value .bytes)) to′ out′ → Inside all out₀ at out′ to′ e depth next
+          inside-over p =
               record {
                 row = l .row;
                 under = l .under;
                 here = here-next table pool links linked e (l .row) position h (l .here) next link;
-                size = p .size ∙ l .size;
-                more = λ q. step over-step p q;
+                left = left-next (escaped false (nodeAt table pool (before position) .value .bytes)) (rest depth e next) over-step (l .left) p;
               }
 
--- An element with all that it holds.
-module _ (table pool : List ℕ) (e : ℕ) (row : e < rowCount table) where
-  pub tree-put :
-      {t t₁ t₂ t₃ : List ℕ} {at r₁ r₂ r₃ : ℕ} → Put t at (startTag (qualifiedName (nodeAt table pool e)) (writtenAttributes (nodes table pool) e)) r₁ t₁
-      → Put t₁ r₁ (markup (content table pool (rowCount table) e)) r₂ t₂
-      → Put t₂ r₂ (endTag (qualifiedName (nodeAt table pool e))) r₃ t₃ → Put t at (markup (writtenTree (nodes table pool) e)) r₃ t₃
-  unfolding markup writtenTree
-  tree-put a b c =
-      rw (length-nodes table pool, node-nodes table pool e row) (put-behind (put-behind (put-behind a b) c) (put-nothing _ _))
+    -- The element that is reached is the next to put.
+    pub ready-next :
+        {all out₀ : List ℕ} {at : ℕ} {out : List ℕ} {to e depth : ℕ} → e < n → (k : ℕ) → suc k ≡ depth → Under (suc k) e → {ahead : List (List ℕ)} → ahead ≡ opened (suc k) e → Left all out₀ at out to ahead
+        → Ready all out₀ at out to e depth
+    ready-next {all} {out₀} {at} {out} {to} {e} {depth} row k same under is l =
+        record {
+          row = row;
+          under = subst (λ d. Under d e) same under;
+          left = subst (Left all out₀ at out to) (is ∙ ap (λ d. opened d e) same) l;
+        }
+
+    pub ready-length : (e depth k : ℕ) → suc k ≡ depth → {ahead : List (List ℕ)} → ahead ≡ opened (suc k) e → length (opened depth e) ≡ length ahead
+    ready-length e depth k same is = sym (ap length (is ∙ ap (λ d. opened d e) same))

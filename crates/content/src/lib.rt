@@ -3,69 +3,56 @@ ghost use Prim.Native.Nat.{_<_};
 ghost use Rattle.rules.specs.Lists.{gathered};
 ghost use Rattle.rules.specs.Table.{rowCount, nodes, nodeAt};
 ghost use Rattle.buffers.specs.Writes.{Put};
-ghost use Rattle.markup.specs.Trees.{qualifiedName, writtenAttributes, contentOf, writtenTree};
+ghost use Rattle.markup.specs.Trees.{qualifiedName, writtenAttributes, writtenTree};
 ghost use Rattle.markup.specs.Markup.{attributeMarkup, startTag, markup};
-ghost use Rattle.tags.specs.Marks.{Marked};
+ghost use Rattle.tags.specs.Marks.{Marked, Pooled};
 ghost use Rattle.content.specs.Content.{Linked};
 use rules::Row;
 
-// The markup of an element.
+// The markup of an element: into it and into each element that it holds, and out of it again, along the links. Behind a start tag
+// come texts and end tags, up to the next element; each tag is put at one place, where the compiler puts it in line.
 pub fn put_element(
     table: &[u32],
     pool: &[u8],
     links: &[u16],
+    runs: &[u16],
     out: &mut [u8],
     at: usize,
     row: Row,
 ) -> usize
     requires { ⌜ Linked (now table) (now links) ⌝ }
     requires { ⌜ row .0 < rowCount (now table) ⌝ }
-    requires { ⌜ Marked (now pool) (now links) ⌝ }
+    requires { ⌜ Marked (now pool) (now links) (now runs) ⌝ }
+    requires { ⌜ Pooled (now table) (now pool) ⌝ }
     ensures { λ r. ⌜ Put (now (out .entry)) at (markup (writtenTree (nodes (now (table .entry)) (now (pool .entry))) (row .0))) r (now (out .exit)) ⌝ }
-{
-    let inside = put_start_tag(table, pool, links, out, at, row);
-    let end = put_content(table, pool, links, out, inside, row);
-    tags::put_end_tag(table, pool, row, out, end)
-}
-
-// The content of an element: into each element that it holds, and out of it again, along the links.
-fn put_content(
-    table: &[u32],
-    pool: &[u8],
-    links: &[u16],
-    out: &mut [u8],
-    at: usize,
-    row: Row,
-) -> usize
-    requires { ⌜ Linked (now table) (now links) ⌝ }
-    requires { ⌜ row .0 < rowCount (now table) ⌝ }
-    requires { ⌜ Marked (now pool) (now links) ⌝ }
-    ensures { λ r. ⌜ Put (now (out .entry)) at (markup (contentOf qualifiedName writtenAttributes (rowCount (now (table .entry))) (nodes (now (table .entry)) (now (pool .entry))) (row .0))) r (now (out .exit)) ⌝ }
 {
     let mut to = at;
     let mut element = row.0;
     let mut depth = 0usize;
-    let mut position = children::first(links, Row(element), false);
-    while (position > 0) | (depth > 0) {
-        if position == 0 {
-            to = tags::put_end_tag(table, pool, Row(element), out, to);
-            position = children::next(links, Row(element), false);
-            element = rows::parent(table, Row(element)).0;
-            depth -= 1;
-        } else {
-            let inner = Row(position as u32 - 1);
-            if rows::kind(table, inner) == rules::ELEMENT {
-                to = put_start_tag(table, pool, links, out, to, inner);
-                position = children::first(links, inner, false);
-                element = inner.0;
-                depth += 1;
+    loop {
+        to = put_start_tag(table, pool, links, runs, out, to, Row(element));
+        depth += 1;
+        let mut position = children::first(links, Row(element), false);
+        loop {
+            if position == 0 {
+                to = tags::put_end_tag(table, pool, Row(element), out, to);
+                depth -= 1;
+                if depth == 0 {
+                    return to;
+                }
+                position = children::next(links, Row(element), false);
+                element = rows::parent(table, Row(element)).0;
             } else {
-                to = tags::put_text(table, pool, links, out, to, inner);
+                let inner = Row(position as u32 - 1);
+                if rows::kind(table, inner) == rules::ELEMENT {
+                    element = inner.0;
+                    break;
+                }
+                to = tags::put_text(table, pool, links, runs, out, to, inner);
                 position = children::next(links, inner, false);
             }
         }
     }
-    to
 }
 
 // The start tag of an element, with what it owns in row order.
@@ -73,18 +60,20 @@ fn put_start_tag(
     table: &[u32],
     pool: &[u8],
     links: &[u16],
+    runs: &[u16],
     out: &mut [u8],
     at: usize,
     row: Row,
 ) -> usize
     requires { ⌜ Linked (now table) (now links) ⌝ }
     requires { ⌜ row .0 < rowCount (now table) ⌝ }
-    requires { ⌜ Marked (now pool) (now links) ⌝ }
+    requires { ⌜ Marked (now pool) (now links) (now runs) ⌝ }
+    requires { ⌜ Pooled (now table) (now pool) ⌝ }
     ensures { λ r. ⌜ Put (now (out .entry)) at (startTag (qualifiedName (nodeAt (now (table .entry)) (now (pool .entry)) (row .0))) (writtenAttributes (nodes (now (table .entry)) (now (pool .entry))) (row .0))) r (now (out .exit)) ⌝ }
 {
     let name = buffers::put_bytes(out, at, &[60]);
     let owned = tags::put_row_name(table, pool, row, out, name);
-    let end = put_owned(table, pool, links, out, owned, row);
+    let end = put_owned(table, pool, links, runs, out, owned, row);
     buffers::put_bytes(out, end, &[62])
 }
 
@@ -93,13 +82,15 @@ fn put_owned(
     table: &[u32],
     pool: &[u8],
     links: &[u16],
+    runs: &[u16],
     out: &mut [u8],
     at: usize,
     row: Row,
 ) -> usize
     requires { ⌜ Linked (now table) (now links) ⌝ }
     requires { ⌜ row .0 < rowCount (now table) ⌝ }
-    requires { ⌜ Marked (now pool) (now links) ⌝ }
+    requires { ⌜ Marked (now pool) (now links) (now runs) ⌝ }
+    requires { ⌜ Pooled (now table) (now pool) ⌝ }
     ensures { λ r. ⌜ Put (now (out .entry)) at (gathered attributeMarkup (writtenAttributes (nodes (now (table .entry)) (now (pool .entry))) (row .0))) r (now (out .exit)) ⌝ }
 {
     let element = row.0;
@@ -107,7 +98,7 @@ fn put_owned(
     let mut position = children::first(links, Row(element), true);
     while position > 0 {
         let owned = Row(position as u32 - 1);
-        to = tags::put_attribute(table, pool, links, out, to, owned);
+        to = tags::put_attribute(table, pool, links, runs, out, to, owned);
         position = children::next(links, owned, true);
     }
     to

@@ -2,21 +2,23 @@
 -- Assumes nothing.
 use Prim.Native.Nat.{ℕ, zero, suc, _+_, _-_, _≤_, _<_}
 use mathlib.Core.Path.{_≡_, refl, sym, _∙_, ap}
-use mathlib.Core.Bool.{Bool, true, false, _&&_, _||_, or-false}
-use mathlib.Core.List.{List, [], _∷_, _++_}
+use mathlib.Core.Bool.{Bool, true, false, cond, not, _&&_, _||_, or-false}
+use mathlib.Core.List.{List, [], _∷_, _++_, append-nil}
 use native.Mathlib.Nat.{le-of-suc-le-suc, not-suc-le-zero}
 use native.Mathlib.Numerals.{add-one}
 use native.Mathlib.Omega.{arith}
-use lib.Dec.{eqb}
-use lib.ListN.{length, getD, take, drop, length-drop, drop-of-length-le}
-use lib.Seq.{drop-cons, drop-drop, getD-drop}
-use borrow.Author.Tests.{eqb-true, ne-eqb}
+use lib.Bits.{bitOr}
+use lib.Dec.{eqb, leb}
+use lib.ListN.{length, getD, set, take, drop, length-set, length-drop, drop-of-length-le}
+use lib.Seq.{take-nil, drop-cons, drop-drop, getD-drop, length-take-le, take-all, getD-set-same, getD-set-other}
+use mir.Val.{boolByte}
+use borrow.Author.Tests.{eqb-true, eqb-false, ne-eqb, leb-true, leb-false}
 use Rattle.rules.specs.Lists.{allOf, gathered}
 use Rattle.rules.proofs.Lists.{by-cases, both-true, true-both, not-true, true-not-false, allOf-weaken}
 use Rattle.buffers.specs.Writes.{Put}
 use Rattle.buffers.proofs.Writes.{put-nothing, put-behind}
 use Rattle.escapes.specs.Escapes.{escapes, isEscaped, escape, escaped}
-use Rattle.escapes.specs.Runs.{run, isPlain}
+use Rattle.escapes.specs.Runs.{run, isPlain, Measured}
 use Rattle.escapes.proofs.Values.{escape-none, every-byte}
 
 -- What a byte that is escaped is, in order and as the code asks it.
@@ -52,62 +54,155 @@ in-quotes =
     (λ e. (refl, refl), λ e. (refl, refl))
     (λ quoted b no? e. absurd (true-not-false e no?))
 
+-- A byte that is not escaped in quotes is escaped nowhere.
+nowhere : (quoted : Bool) (b : ℕ) → isEscaped true b ≡ false → isEscaped quoted b ≡ false
+nowhere quoted b h = by-cases (isEscaped quoted b) (λ e. absurd (true-not-false (in-quotes quoted b e .0) h)) (λ e. e)
+
+-- A byte that is escaped in quotes, by whether it is escaped in a text: all are from 13 on.
+pub late-escaped : (quoted : Bool) (b : ℕ) → isEscaped true b ≡ true → (quoted || leb 13 b) ≡ true → escape quoted b ≡ escape true b
+late-escaped true b e h = refl
+late-escaped false b e h =
+    let from = leb-true 13 b h in
+    let late : isEscaped false b ≡ isEscaped true b =
+    rw (escaped-is false b, escaped-is true b, ne-eqb b 9 (λ k. omega arith), ne-eqb b 10 (λ k. omega arith)) refl in
+    in-quotes false b (late ∙ e) .1
+
+pub early-bare : (quoted : Bool) (b : ℕ) → (quoted || leb 13 b) ≡ false → escape quoted b ≡ b ∷ []
+early-bare true b h = absurd (true-not-false refl h)
+early-bare false b h =
+    let before = leb-false 13 b h in
+    let bare : isEscaped false b ≡ false =
+    rw (escaped-is false b, ne-eqb b 38 (λ k. omega arith), ne-eqb b 60 (λ k. omega arith), ne-eqb b 62 (λ k. omega arith), ne-eqb b 34 (λ k. omega arith), ne-eqb b 13 (λ k. omega arith)) refl in
+    escape-none false b bare
+
+-- No byte from 63 on is escaped.
+pub high-bare : (b : ℕ) → 63 ≤ b → isEscaped true b ≡ false
+high-bare b h =
+    rw (escaped-is true b, ne-eqb b 38 (λ k. omega arith), ne-eqb b 60 (λ k. omega arith), ne-eqb b 62 (λ k. omega arith), ne-eqb b 34 (λ k. omega arith), ne-eqb b 13 (λ k. omega arith), ne-eqb b 9 (λ k. omega arith), ne-eqb b 10 (λ k. omega arith))
+    refl
+
+-- The length of a run by its first byte.
+pub from-bare : (b behind : ℕ) → isEscaped true b ≡ false → behind + 1 ≡ cond (isEscaped true b) 0 (behind + 1)
+from-bare b behind e = rw e refl
+
+pub from-escaped : (b behind : ℕ) → isEscaped true b ≡ true → 0 ≡ cond (isEscaped true b) 0 (behind + 1)
+from-escaped b behind e = rw e refl
+
+-- What is equal to what was put is put.
+pub as-put : {l m out : List ℕ} {at r : ℕ} {out′ : List ℕ} → m ≡ l → Put out at l r out′ → Put out at m r out′
+as-put e p = rw e p
+
 -- The escape of a byte that is known is put.
 pub escape-put : {b k : ℕ} (e : b ≡ k) (out : List ℕ) (at : ℕ) {r : ℕ} {out′ : List ℕ} → Put out at (escape true k) r out′ → Put out at (escape true b) r out′
 escape-put e out at p = rw e p
 
 -- A run is what the value starts with, and the escapes go on behind it.
-pub run-part : (quoted : Bool) (l : List ℕ) → take (length (run quoted l)) l ≡ run quoted l
+pub run-part : (l : List ℕ) → take (length (run l)) l ≡ run l
 unfolding run
-run-part quoted [] = refl
-run-part quoted (b ∷ bs) =
-    by-cases (isEscaped quoted b)
+run-part [] = refl
+run-part (b ∷ bs) =
+    by-cases (isEscaped true b)
     (λ e. rw e refl)
-    (λ e. rw e (ap (λ (m : List ℕ). b ∷ m) (run-part quoted bs)))
+    (λ e. rw e (ap (λ (m : List ℕ). b ∷ m) (run-part bs)))
 
-pub run-within : (quoted : Bool) (l : List ℕ) → length (run quoted l) ≤ length l
+pub run-within : (l : List ℕ) → length (run l) ≤ length l
 unfolding run
-run-within quoted [] = omega arith
-run-within quoted (b ∷ bs) =
-    by-cases (isEscaped quoted b)
+run-within [] = omega arith
+run-within (b ∷ bs) =
+    by-cases (isEscaped true b)
     (λ e. rw e (omega arith))
-    (λ e. rw e (omega (arith, run-within quoted bs)))
+    (λ e. rw e (omega (arith, run-within bs)))
 
-pub run-escaped : (quoted : Bool) (l : List ℕ) → escaped quoted l ≡ run quoted l ++ escaped quoted (drop (length (run quoted l)) l)
+pub run-escaped : (quoted : Bool) (l : List ℕ) → escaped quoted l ≡ run l ++ escaped quoted (drop (length (run l)) l)
 unfolding run escaped
 run-escaped quoted [] = refl
 run-escaped quoted (b ∷ bs) =
-    by-cases (isEscaped quoted b)
+    by-cases (isEscaped true b)
     (λ e. rw e refl)
-    (λ e. rw (e, escape-none quoted b e) (ap (λ (m : List ℕ). b ∷ m) (run-escaped quoted bs)))
+    (λ e. rw (e, escape-none quoted b (nowhere quoted b e)) (ap (λ (m : List ℕ). b ∷ m) (run-escaped quoted bs)))
 
-pub run-stops : (quoted : Bool) (l : List ℕ) → length (run quoted l) < length l → isEscaped quoted (getD l (length (run quoted l)) 0) ≡ true
+pub run-stops : (l : List ℕ) → length (run l) < length l → isEscaped true (getD l (length (run l)) 0) ≡ true
 unfolding run
-run-stops quoted [] h = absurd (not-suc-le-zero h)
-run-stops quoted (b ∷ bs) h =
-    by-cases (isEscaped quoted b)
+run-stops [] h = absurd (not-suc-le-zero h)
+run-stops (b ∷ bs) h =
+    by-cases (isEscaped true b)
     (λ e. rw e e)
-    (λ e. rw e (run-stops quoted bs (le-of-suc-le-suc (rw e at h))))
+    (λ e. rw e (run-stops bs (le-of-suc-le-suc (rw e at h))))
+
+-- The run of a part is a part of the run.
+run-taken : (n : ℕ) (l : List ℕ) → run (take n l) ≡ take n (run l)
+unfolding run
+run-taken zero l = refl
+run-taken (suc n) [] = refl
+run-taken (suc n) (b ∷ bs) =
+    by-cases (isEscaped true b)
+    (λ e. rw e refl)
+    (λ e. rw e (ap (λ (m : List ℕ). b ∷ m) (run-taken n bs)))
+
+-- A value that is all one run is written as it is.
+run-whole : (quoted : Bool) (l : List ℕ) → l ≡ run l → escaped quoted l ≡ l
+unfolding escaped
+run-whole quoted l e =
+    let all : length l ≤ length (run l) = omega (arith, ap length e) in
+    run-escaped quoted l ∙ ap (λ (m : List ℕ). run l ++ escaped quoted m) (drop-of-length-le l all) ∙ append-nil (run l) ∙ sym e
 
 -- A value from byte i on.
-module _ (quoted : Bool) (value : List ℕ) (i : ℕ) where
+module _ (value : List ℕ) (i : ℕ) where
   -- the run goes on
-  pub run-byte : i < length value → isEscaped quoted (getD value i 0) ≡ false → i + 1 + length (run quoted (drop (i + 1) value)) ≡ i + length (run quoted (drop i value))
+  pub run-byte : i < length value → isEscaped true (getD value i 0) ≡ false → i + 1 + length (run (drop (i + 1) value)) ≡ i + length (run (drop i value))
   unfolding run
   run-byte h e = rw (add-one, drop-cons value i 0 h, e) (omega arith)
 
   -- the run ends
-  pub run-escape : i < length value → isEscaped quoted (getD value i 0) ≡ true → i ≡ i + length (run quoted (drop i value))
+  pub run-escape : i < length value → isEscaped true (getD value i 0) ≡ true → i ≡ i + length (run (drop i value))
   unfolding run
   run-escape h e = rw (drop-cons value i 0 h, e) (omega arith)
 
-  pub run-end : length value ≤ i → i ≡ i + length (run quoted (drop i value))
+  pub run-end : length value ≤ i → i ≡ i + length (run (drop i value))
   unfolding run
   run-end h = rw (drop-of-length-le value h) (omega arith)
 
-  pub nothing-left : length value ≤ i → escaped quoted (drop i value) ≡ []
+  pub nothing-left : (quoted : Bool) → length value ≤ i → escaped quoted (drop i value) ≡ []
   unfolding escaped
-  nothing-left h = rw (drop-of-length-le value h) refl
+  nothing-left quoted h = rw (drop-of-length-le value h) refl
+
+  -- by where the run ends
+  pub end-told : {end : ℕ} → end ≡ i + length (run (drop i value)) → (i ≤ end) × (take (end - i) (drop i value) ≡ run (drop i value))
+  end-told {end} e =
+      let n : end - i ≡ length (run (drop i value)) = omega arith in
+      (omega arith, ap (λ (k : ℕ). take k (drop i value)) n ∙ run-part (drop i value))
+
+  pub end-is : {end : ℕ} → (i ≤ end) × (take (end - i) (drop i value) ≡ run (drop i value)) → end ≤ length value → end ≡ i + length (run (drop i value))
+  end-is {end} e h =
+      let n : end - i ≤ length (drop i value) = rw length-drop (omega (arith, e .0)) in
+      let size : length (run (drop i value)) ≡ end - i = ap length (sym (e .1)) ∙ length-take-le (end - i) (drop i value) n in
+      omega (arith, e .0, size)
+
+  pub length-told : {runs : List ℕ} {size : ℕ} → i < length value → Measured value runs → size ≡ getD runs i 0 → (i ≤ i + size) × (take (i + size - i) (drop i value) ≡ run (drop i value))
+  length-told {runs} {size} h m e =
+      let n : i + size - i ≡ getD runs i 0 = omega arith in
+      (omega arith, ap (λ (k : ℕ). take k (drop i value)) n ∙ m .lengths i h)
+
+-- Nothing, or one byte, is put.
+pub none-put : (bytes out : List ℕ) (at : ℕ) → length bytes ≡ 0 → Put out at bytes at out
+none-put [] out at h = put-nothing out at
+none-put (b ∷ bs) out at h = absurd (omega arith)
+
+pub one-put : (bytes out : List ℕ) (at : ℕ) {r : ℕ} {out′ : List ℕ} → length bytes ≡ 1 → Put out at (getD bytes 0 0 ∷ []) r out′ → Put out at bytes r out′
+one-put [] out at h p = absurd (omega arith)
+one-put (b ∷ []) out at h p = p
+one-put (b ∷ c ∷ bs) out at h p = absurd (omega arith)
+
+-- What is seen, gathered in a byte.
+pub seen-or : (all t : Bool) → bitOr (boolByte (not all)) (boolByte t) ≡ boolByte (not (all && not t))
+seen-or true true = refl
+seen-or true false = refl
+seen-or false true = refl
+seen-or false false = refl
+
+pub seen-none : (all : Bool) → eqb (boolByte (not all)) 0 ≡ all
+seen-none true = refl
+seen-none false = refl
 
 -- A value of which no byte is escaped is written as it is.
 pub plain-escaped : (quoted : Bool) (value : List ℕ) → allOf (isPlain quoted) value ≡ true → escaped quoted value ≡ value
@@ -120,12 +215,8 @@ plain-escaped quoted (b ∷ bs) h =
 pub plain-put : (quoted : Bool) (value out : List ℕ) (at : ℕ) {r : ℕ} {out′ : List ℕ} → allOf (isPlain quoted) value ≡ true → Put out at value r out′ → Put out at (escaped quoted value) r out′
 plain-put quoted value out at h p = rw (plain-escaped quoted value h) p
 
--- A byte that is not escaped in quotes is escaped nowhere.
 plain-everywhere : (quoted : Bool) (b : ℕ) → isPlain true b ≡ true → isPlain quoted b ≡ true
-plain-everywhere quoted b h =
-    by-cases (isEscaped quoted b)
-    (λ e. absurd (true-not-false (in-quotes quoted b e .0) (not-true (isEscaped true b) h)))
-    (λ e. rw e refl)
+plain-everywhere quoted b h = rw (nowhere quoted b (not-true (isEscaped true b) h)) refl
 
 pub known-put : (quoted : Bool) (value out : List ℕ) (at : ℕ) {r : ℕ} {out′ : List ℕ} → allOf (isPlain true) value ≡ true → Put out at value r out′ → Put out at (escaped quoted value) r out′
 known-put quoted value out at h p = plain-put quoted value out at (allOf-weaken (isPlain true) (isPlain quoted) (plain-everywhere quoted) value h) p
@@ -145,6 +236,90 @@ dropped-plain (suc i) (b ∷ bs) h = dropped-plain i bs (both-true (isPlain true
 
 pub part-plain : (pool : List ℕ) (offset size : ℕ) → allOf (isPlain true) pool ≡ true → allOf (isPlain true) (take size (drop offset pool)) ≡ true
 part-plain pool offset size h = taken-plain size (drop offset pool) (dropped-plain offset pool h)
+
+-- The lengths of the runs of a part are a part of the lengths.
+drop-taken : (i n : ℕ) (l : List ℕ) → drop i (take n l) ≡ take (n - i) (drop i l)
+drop-taken zero n l = let all : n ≡ n - 0 = omega arith in ap (λ (k : ℕ). take k l) all
+drop-taken (suc i) zero l = let none : 0 ≡ 0 - suc i = omega arith in ap (λ (k : ℕ). take k (drop (suc i) l)) none
+drop-taken (suc i) (suc n) [] = sym (take-nil (suc n - suc i))
+drop-taken (suc i) (suc n) (x ∷ xs) =
+    let less : n - i ≡ suc n - suc i = omega arith in
+    drop-taken i n xs ∙ ap (λ (k : ℕ). take k (drop i xs)) less
+
+take-swap : (m n : ℕ) (l : List ℕ) → take m (take n l) ≡ take n (take m l)
+take-swap zero zero l = refl
+take-swap zero (suc n) l = refl
+take-swap (suc m) zero l = refl
+take-swap (suc m) (suc n) [] = refl
+take-swap (suc m) (suc n) (x ∷ xs) = ap (λ (r : List ℕ). x ∷ r) (take-swap m n xs)
+
+taken-within : (n : ℕ) (l : List ℕ) → length (take n l) ≤ length l
+taken-within zero l = omega arith
+taken-within (suc n) [] = omega arith
+taken-within (suc n) (x ∷ xs) = omega (arith, taken-within n xs)
+
+pub part-measured : (bytes runs : List ℕ) (offset size : ℕ) → Measured bytes runs → Measured (take size (drop offset bytes)) (drop offset runs)
+part-measured bytes runs offset size m =
+    let short = taken-within size (drop offset bytes) in
+    record {
+      room = omega (arith, short, length-drop offset bytes, length-drop offset runs, m .room);
+      lengths = λ i h.
+          let rest = drop (offset + i) bytes in
+          let within : offset + i < length bytes = omega (arith, short, length-drop offset bytes) in
+          let from : drop i (take size (drop offset bytes)) ≡ take (size - i) rest = drop-taken i size (drop offset bytes) ∙ ap (take (size - i)) (drop-drop i offset bytes) in
+          rw (from, getD-drop)
+          (take-swap (getD runs (offset + i) 0) (size - i) rest
+          ∙ ap (take (size - i)) (m .lengths (offset + i) within) ∙ sym (run-taken (size - i) rest));
+    }
+
+-- The lengths of the runs from byte i on are stored; `size` is the first of them.
+pub record Stored (bytes runs₀ runs : List ℕ) (i size : ℕ) : Type 0 where
+  pub within : i ≤ length bytes
+  pub room : length runs ≡ length runs₀
+  pub first : size ≡ length (run (drop i bytes))
+  pub stored : (j : ℕ) → i ≤ j → j < length bytes → getD runs j 0 ≡ length (run (drop j bytes))
+
+module _ (bytes runs₀ : List ℕ) where
+  pub stored-start : Stored bytes runs₀ runs₀ (length bytes) 0
+  stored-start =
+      record {
+        within = omega arith;
+        room = refl;
+        first = omega (arith, run-end bytes (length bytes) (omega arith));
+        stored = λ j from to. absurd (omega arith);
+      }
+
+  module _ {runs : List ℕ} {i size : ℕ} (s : Stored bytes runs₀ runs i size) where
+    pub stored-small : 0 < i → size < length bytes
+    stored-small h = omega (arith, s .within, s .first, run-within (drop i bytes), length-drop i bytes)
+
+    pub stored-all : i ≡ 0 → length bytes ≤ length runs₀ → Measured bytes runs
+    stored-all z h =
+        record {
+          room = omega (arith, s .room);
+          lengths = λ j to. ap (λ (k : ℕ). take k (drop j bytes)) (s .stored j (omega arith) to) ∙ run-part (drop j bytes);
+        }
+
+    -- one byte more
+    module _ (k : ℕ) (next : i ≡ suc k) (size′ : ℕ) (is : size′ ≡ cond (isEscaped true (getD bytes k 0)) 0 (size + 1)) where
+      longer : size′ ≡ length (run (drop k bytes))
+      unfolding run
+      longer =
+          let behind : size ≡ length (run (drop (suc k) bytes)) = s .first ∙ ap (λ (n : ℕ). length (run (drop n bytes))) next in
+          is ∙ rw (drop-cons bytes k 0 (omega (arith, s .within)))
+          (by-cases (isEscaped true (getD bytes k 0)) (λ e. rw e refl) (λ e. rw e (omega (arith, behind))))
+
+      pub stored-byte : length bytes ≤ length runs₀ → Stored bytes runs₀ (set runs k size′) k size′
+      stored-byte h =
+          record {
+            within = omega (arith, s .within);
+            room = length-set runs k size′ ∙ s .room;
+            first = longer;
+            stored = λ j from to.
+                by-cases (eqb j k)
+                (λ e. let same = eqb-true j k e in rw same (getD-set-same runs k size′ 0 (omega (arith, s .room, s .within)) ∙ longer))
+                (λ e. let other = eqb-false j k e in getD-set-other runs k j size′ 0 other ∙ s .stored j (omega arith) to);
+          }
 
 -- What is left from byte i on, put from place `to` on, is the whole put from place `at` of the output at first.
 pub record Left (quoted : Bool) (value out₀ : List ℕ) (at : ℕ) (out : List ℕ) (to i : ℕ) : Type 0 where
@@ -167,37 +342,41 @@ module _ (quoted : Bool) (value out₀ : List ℕ) (at : ℕ) where
 
   module _ {out : List ℕ} {to i : ℕ} (l : Left quoted value out₀ at out to i) where
     -- the run from byte i on
-    module _ (end : ℕ) (e : end ≡ i + length (run quoted (drop i value))) where
-      pub run-inside : (i ≤ end) × (end ≤ length value)
-      run-inside = (omega arith, omega (arith, run-within quoted (drop i value), length-drop i value, l .within))
+    module _ (end : ℕ) (told : (i ≤ end) × (take (end - i) (drop i value) ≡ run (drop i value))) where
+      -- it goes to the end
+      pub left-last : length value ≤ end → {r : ℕ} {out′ : List ℕ} → Put out to (take (length value - i) (drop i value)) r out′ → Put out₀ at (escaped quoted value) r out′
+      left-last h p =
+          let size : length (drop i value) ≤ end - i = rw length-drop (omega arith) in
+          let rest : length (drop i value) ≤ length value - i = rw length-drop (omega arith) in
+          l .whole
+          (as-put
+          (run-whole quoted (drop i value) (sym (take-all (end - i) (drop i value) size) ∙ told .1) ∙ sym (take-all (length value - i) (drop i value) rest))
+          p)
 
-      part-is : take (end - i) (drop i value) ≡ run quoted (drop i value)
-      part-is =
-          let n : end - i ≡ length (run quoted (drop i value)) = omega arith in
-          ap (λ (k : ℕ). take k (drop i value)) n ∙ run-part quoted (drop i value)
+      module _ (h : end < length value) where
+        is : end ≡ i + length (run (drop i value))
+        is = end-is value i told (omega arith)
 
-      pub left-run : {out′ : List ℕ} {to′ : ℕ} → Put out to (take (end - i) (drop i value)) to′ out′ → Left quoted value out₀ at out′ to′ end
-      left-run p =
-          let rest : drop (length (run quoted (drop i value))) (drop i value) ≡ drop end value = drop-drop (length (run quoted (drop i value))) i value ∙ ap (λ (k : ℕ). drop k value) (sym e) in
-          left-part (run quoted (drop i value)) end l (run-inside .1) (run-escaped quoted (drop i value) ∙ ap (λ (m : List ℕ). run quoted (drop i value) ++ escaped quoted m) rest) (rw part-is at p)
+        pub left-run : {out′ : List ℕ} {to′ : ℕ} → Put out to (take (end - i) (drop i value)) to′ out′ → Left quoted value out₀ at out′ to′ end
+        left-run p =
+            let rest : drop (length (run (drop i value))) (drop i value) ≡ drop end value = drop-drop (length (run (drop i value))) i value ∙ ap (λ (k : ℕ). drop k value) (sym is) in
+            left-part (run (drop i value)) end l (omega arith) (run-escaped quoted (drop i value) ∙ ap (λ (m : List ℕ). run (drop i value) ++ escaped quoted m) rest) (rw (told .1) at p)
 
-      pub stops : end < length value → isEscaped quoted (getD value end 0) ≡ true
-      stops h =
-          let n : length (run quoted (drop i value)) < length (drop i value) = rw length-drop (omega arith) in
-          ap (λ (k : ℕ). isEscaped quoted (getD value k 0)) e
-          ∙ ap (isEscaped quoted) (sym (getD-drop i value (length (run quoted (drop i value))) 0))
-          ∙ run-stops quoted (drop i value) n
+        pub stops : isEscaped true (getD value end 0) ≡ true
+        stops =
+            let n : length (run (drop i value)) < length (drop i value) = rw length-drop (omega (arith, is)) in
+            ap (λ (k : ℕ). isEscaped true (getD value k 0)) is
+            ∙ ap (isEscaped true) (sym (getD-drop i value (length (run (drop i value))) 0))
+            ∙ run-stops (drop i value) n
 
     -- the escape of byte i
-    module _ (h : i < length value) (e : isEscaped quoted (getD value i 0) ≡ true) where
-      split : escaped quoted (drop i value) ≡ escape true (getD value i 0) ++ escaped quoted (drop (i + 1) value)
+    module _ (h : i < length value) where
+      split : escaped quoted (drop i value) ≡ escape quoted (getD value i 0) ++ escaped quoted (drop (i + 1) value)
       unfolding escaped
-      split =
-          ap (gathered (escape quoted)) (drop-cons value i 0 h)
-          ∙ rw (in-quotes quoted (getD value i 0) e .1, add-one) refl
+      split = ap (gathered (escape quoted)) (drop-cons value i 0 h) ∙ rw add-one refl
 
-      pub left-escape : {out′ : List ℕ} {to′ : ℕ} → Put out to (escape true (getD value i 0)) to′ out′ → Left quoted value out₀ at out′ to′ (i + 1)
-      left-escape p = left-part (escape true (getD value i 0)) (i + 1) l (omega arith) split p
+      pub left-escape : {out′ : List ℕ} {to′ : ℕ} → Put out to (escape quoted (getD value i 0)) to′ out′ → Left quoted value out₀ at out′ to′ (i + 1)
+      left-escape p = left-part (escape quoted (getD value i 0)) (i + 1) l (omega arith) split p
 
     pub left-end : length value ≤ i → Put out₀ at (escaped quoted value) to out
-    left-end h = l .whole (rw (nothing-left quoted value i h) (put-nothing out to))
+    left-end h = l .whole (rw (nothing-left value i quoted h) (put-nothing out to))

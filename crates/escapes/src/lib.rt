@@ -1,66 +1,120 @@
 // Values in XML text: writing a value with its escapes.
 ghost use mathlib.Core.Path.{_≡_};
-ghost use mathlib.Core.Bool.{true};
-ghost use Prim.Native.Nat.{_+_, _≤_};
-ghost use lib.ListN.{length, drop};
+ghost use mathlib.Core.Bool.{true, cond};
+ghost use Prim.Native.Nat.{_+_, _-_, _≤_, _<_};
+ghost use lib.ListN.{length, take, drop};
 ghost use Rattle.rules.specs.Lists.{allOf};
+ghost use Rattle.rules.specs.Table.{MOST-BYTES};
 ghost use Rattle.buffers.specs.Writes.{Put};
 ghost use Rattle.escapes.specs.Escapes.{isEscaped, escape, escaped};
-ghost use Rattle.escapes.specs.Runs.{run, isPlain};
+ghost use Rattle.escapes.specs.Runs.{run, isPlain, Measured, Known};
 
 // Writes a value with its escapes to an output from a place on: a text, or in quotes the value of an attribute or a declaration.
-// It may be known that no byte is escaped. Answers where it ends, or a place past the output's end.
-pub fn write_value(out: &mut [u8], at: usize, value: &[u8], quoted: bool, plain: bool) -> usize
-    requires { ⌜ (plain ≡ true → allOf (isPlain true) (now value) ≡ true) ⌝ }
+// The lengths of its runs may be known; if there are none, they are not. Answers where it ends, or a place past the output's end.
+pub fn write_value(out: &mut [u8], at: usize, value: &[u8], runs: &[u16], quoted: bool) -> usize
+    requires { ⌜ Known (now value) (now runs) ⌝ }
     ensures { λ r. ⌜ Put (now (out .entry)) at (escaped quoted (now (value .entry))) r (now (out .exit)) ⌝ }
 {
-    if plain {
-        return buffers::put_bytes(out, at, value);
+    if runs.len() == 0 {
+        if is_plain(value, quoted) {
+            return buffers::put_bytes(out, at, value);
+        }
     }
-    write_escaped(out, at, value, quoted)
+    write_runs(out, at, value, runs, quoted)
 }
 
-// The same, where it is not known.
-fn write_escaped(out: &mut [u8], at: usize, value: &[u8], quoted: bool) -> usize
-    ensures { λ r. ⌜ Put (now (out .entry)) at (escaped quoted (now (value .entry))) r (now (out .exit)) ⌝ }
-{
-    if is_plain(value, quoted) {
-        return buffers::put_bytes(out, at, value);
-    }
-    write_runs(out, at, value, quoted)
-}
-
-// Writes a value by runs of bytes between escapes.
-fn write_runs(out: &mut [u8], at: usize, value: &[u8], quoted: bool) -> usize
+// Writes a value by runs of bytes that are escaped nowhere. The byte behind a run is escaped in quotes.
+fn write_runs(out: &mut [u8], at: usize, value: &[u8], runs: &[u16], quoted: bool) -> usize
+    requires { ⌜ Known (now value) (now runs) ⌝ }
     ensures { λ r. ⌜ Put (now (out .entry)) at (escaped quoted (now (value .entry))) r (now (out .exit)) ⌝ }
 {
     let mut to = at;
     let mut i = 0;
     while i < value.len() {
-        let end = run_end(value, i, quoted);
-        to = buffers::put_bytes(out, to, &value[i..end]);
-        if end == value.len() {
-            return to;
+        let end = run_end(value, runs, i);
+        if end >= value.len() {
+            return buffers::put_bytes(out, to, &value[i..]);
         }
-        to = write_escape(out, to, value[end]);
+        to = put_run(out, to, &value[i..end]);
+        to = write_byte(out, to, value[end], quoted);
         i = end + 1;
     }
     to
 }
 
-// Where the bytes from i on that are not escaped end.
-fn run_end(value: &[u8], i: usize, quoted: bool) -> usize
+// Where the run from byte i on ends, or a place behind the value's end: by its length, if that is known.
+fn run_end(value: &[u8], runs: &[u16], i: usize) -> usize
+    requires { ⌜ i < length (now value) ⌝ }
+    requires { ⌜ Known (now value) (now runs) ⌝ }
+    ensures { λ r. ⌜ (i ≤ r) × (take (r - i) (drop i (now (value .entry))) ≡ run (drop i (now (value .entry)))) ⌝ }
+{
+    if runs.len() == 0 {
+        return seen_end(value, i);
+    }
+    i + wide(runs[i])
+}
+
+// A length as an index.
+fn wide(x: u16) -> usize
+    ensures { λ r. ⌜ (r ≡ x) × (r < 65536) ⌝ }
+{
+    x as usize
+}
+
+// Where the run from byte i on ends, by a look at each byte.
+fn seen_end(value: &[u8], i: usize) -> usize
     requires { ⌜ i ≤ length (now value) ⌝ }
-    ensures { λ r. ⌜ r ≡ i + length (run quoted (drop i (now (value .entry)))) ⌝ }
+    ensures { λ r. ⌜ r ≡ i + length (run (drop i (now (value .entry)))) ⌝ }
 {
     let mut end = i;
     while end < value.len() {
-        if is_escaped(value[end], quoted) {
+        if is_escaped(value[end], true) {
             return end;
         }
         end += 1;
     }
     end
+}
+
+// Writes a run. Many have no byte, or one, which needs no loop.
+fn put_run(out: &mut [u8], at: usize, bytes: &[u8]) -> usize
+    ensures { λ r. ⌜ Put (now (out .entry)) at (now (bytes .entry)) r (now (out .exit)) ⌝ }
+{
+    if bytes.len() == 0 {
+        return at;
+    }
+    if bytes.len() == 1 {
+        return buffers::put_bytes(out, at, &[bytes[0]]);
+    }
+    buffers::put_bytes(out, at, bytes)
+}
+
+// The length of the run from each byte on, from the last to the first.
+pub fn measure_runs(bytes: &[u8], runs: &mut [u16])
+    requires { ⌜ (length (now bytes) ≤ MOST-BYTES) × (length (now bytes) ≤ length (now runs)) ⌝ }
+    ensures { λ _. ⌜ Measured (now (bytes .entry)) (now (runs .exit)) ⌝ }
+{
+    let mut i = bytes.len();
+    let mut size: u16 = 0;
+    while i > 0 {
+        i -= 1;
+        size = run_from(bytes[i], size);
+        runs[i] = size;
+    }
+}
+
+// The length of the run from a byte on, by that of the run behind it. Most bytes are passed by the first test: no byte from 63 on
+// is escaped.
+fn run_from(b: u8, behind: u16) -> u16
+    requires { ⌜ behind < MOST-BYTES ⌝ }
+    ensures { λ r. ⌜ r ≡ cond (isEscaped true b) 0 (behind + 1) ⌝ }
+{
+    if b < 63 {
+        if is_escaped(b, true) {
+            return 0;
+        }
+    }
+    behind + 1
 }
 
 // No byte is escaped. The compiler makes a loop for each of the two kinds of values.
@@ -73,17 +127,17 @@ pub fn is_plain(bytes: &[u8], quoted: bool) -> bool
     all_plain(bytes, false)
 }
 
-// No byte is escaped. No byte ends the loop, so that the compiler can take many at once.
+// No byte is escaped. No byte ends the loop, and what is seen is gathered in a byte, so that the compiler can take many at once.
 fn all_plain(bytes: &[u8], quoted: bool) -> bool
     ensures { λ r. ⌜ r ≡ allOf (isPlain quoted) (now (bytes .entry)) ⌝ }
 {
-    let mut all = true;
+    let mut seen: u8 = 0;
     let mut i = 0;
     while i < bytes.len() {
-        all = all & !is_escaped(bytes[i], quoted);
+        seen = seen | (is_escaped(bytes[i], quoted) as u8);
         i += 1;
     }
-    all
+    seen == 0
 }
 
 // The byte is escaped. Two bytes that differ in one bit stand together: the compiler tests them at once.
@@ -93,6 +147,17 @@ fn is_escaped(b: u8, quoted: bool) -> bool
     ((b == 38) | (b == 34))
         | ((b == 60) | (b == 62))
         | ((b == 13) | (quoted & ((b == 9) | (b == 10))))
+}
+
+// Writes a byte that is escaped in quotes. In a text those below 13, tab and line feed, stand for themselves.
+fn write_byte(out: &mut [u8], at: usize, b: u8, quoted: bool) -> usize
+    requires { ⌜ isEscaped true b ≡ true ⌝ }
+    ensures { λ r. ⌜ Put (now (out .entry)) at (escape quoted b) r (now (out .exit)) ⌝ }
+{
+    if quoted | (b >= 13) {
+        return write_escape(out, at, b);
+    }
+    buffers::put_bytes(out, at, &[b])
 }
 
 // Writes the escape of a byte to an output from a place on; answers where it ends, or a place past the output's end.

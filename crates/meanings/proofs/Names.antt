@@ -23,7 +23,7 @@ use Rattle.notes.specs.Notes.{PREFIX, LOCAL-NAME, VALUE, noteAt}
 use Rattle.numbers.specs.Noted.{NodeNumbered, declaredUri}
 use Rattle.scopes.specs.Scopes.{nearest}
 use Rattle.scopes.specs.Rows.{up}
-use Rattle.scopes.specs.Stacks.{TOPS, PREFIXES, topAt, prefixAt, valueAt, Untouched}
+use Rattle.scopes.specs.Stacks.{TOPS, PREFIXES, NUMBERED, topAt, underAt, prefixAt, valueAt, Untouched}
 use Rattle.scopes.specs.Standing.{Standing, Ready}
 use Rattle.scopes.proofs.Reading.{up-falls}
 use Rattle.scopes.proofs.Definitions.{tree-accepted}
@@ -113,21 +113,24 @@ module _ {table pool notes tops path : List ℕ} (w : Walkable table pool notes 
   pub open-room : (r : ℕ) → r < rowCount table → TOPS * noteAt notes r LOCAL-NAME + TOPS ≤ length tops
   open-room r h = omega (arith, noted-row r h .local .known, w .topped)
 
-  -- The arrays moved.
-  pub walkable-moved : (tops′ path′ : List ℕ) → length tops′ ≡ length tops → length path′ ≡ length path → Untouched path path′ → Walkable table pool notes tops′ path′
-  walkable-moved tops′ path′ ts ps kept =
+  -- The arrays moved, and the number of xml is where it was.
+  pub walkable-kept : (tops′ path′ : List ℕ) → length tops′ ≡ length tops → length path′ ≡ length path → underAt path′ NUMBERED 0 ≡ underAt path NUMBERED 0 → Walkable table pool notes tops′ path′
+  walkable-kept tops′ path′ ts ps kept =
       record {
         accepted = w .accepted;
         spelling = w .spelling;
         names = w .names;
         spelled = w .spelled;
         numbered = w .numbered;
-        xml = λ n bytes is. ap (eqb n) (kept 0) ∙ w .xml n bytes is;
+        xml = λ n bytes is. ap (eqb n) kept ∙ w .xml n bytes is;
         topped = rw ts (w .topped);
         noted = w .noted;
         placed = rw ps (w .placed);
         linked = w .linked;
       }
+
+  pub walkable-moved : (tops′ path′ : List ℕ) → length tops′ ≡ length tops → length path′ ≡ length path → Untouched path path′ → Walkable table pool notes tops′ path′
+  walkable-moved tops′ path′ ts ps kept = walkable-kept tops′ path′ ts ps (kept 0)
 
   pub asked : (q : ℕ) → Standing table notes tops path q → (r : ℕ) → r < rowCount table → Asked notes tops path r
   asked q standing r h =
@@ -189,54 +192,58 @@ module _ {table pool notes tops path : List ℕ} (w : Walkable table pool notes 
           (open-parts (eqb (noteAt notes r VALUE) 0) (eqb (node ns r .parent) e) (isOneOf (elementsFrom ns e) (node ns r .parent)) (not (anyOf (declares (node ns r .local .bytes)) (scopeOf ns (nearer (node ns r .parent) (elementsFrom ns e)))))))
           (λ q. rw (q, ne-eqb (node ns r .type) DECLARATION (λ z. eqb-false (word table r TYPE) DECLARATION q (sym type ∙ z))) refl)
 
-  -- 23.
-  module _ (flags : List ℕ) (e : ℕ) (flagged : Flagged table flags e (rowCount table)) (element : isElement (node ns e .type) ≡ true) (q : ℕ) (standing : Standing table notes tops path q)
-      (r : ℕ) (below : r < rowCount table) (at : isNamed table flags r ≡ true → q ≡ placeOf table r) where
-    in-flag : isOneOf (ELEMENT ∷ ATTRIBUTE ∷ []) (node ns r .type) ≡ (eqb (word table r TYPE) ELEMENT || (eqb (word table r TYPE) ATTRIBUTE || false))
-    in-flag = rw (type-word table pool r below) refl
+  -- 23, where the arrays stand at the place of row r's name.
+  module _ (q : ℕ) (standing : Standing table notes tops path q) (r : ℕ) (below : r < rowCount table) where
+    pub in-kinds : isOneOf (ELEMENT ∷ ATTRIBUTE ∷ []) (node ns r .type) ≡ (eqb (word table r TYPE) ELEMENT || (eqb (word table r TYPE) ATTRIBUTE || false))
+    in-kinds = rw (type-word table pool r below) refl
 
     -- an attribute of the subtree has an owner
-    owned : inSubtree ns e r ≡ true → node ns r .type ≡ ATTRIBUTE → (node ns r .parent < r) × (isElement (node ns (node ns r .parent) .type) ≡ true)
-    owned inside kind =
+    owned : (e : ℕ) → isElement (node ns e .type) ≡ true → inSubtree ns e r ≡ true → node ns r .type ≡ ATTRIBUTE → (node ns r .parent < r) × (isElement (node ns (node ns r .parent) .type) ≡ true)
+    owned e element inside kind =
         owner-element ns (length pool) r (is-accepted .row r (row-within below)) (rw kind refl)
         (λ alone.
         true-not-false inside
         (in-none ns e r (λ same. true-not-false (subst (λ (k : ℕ). isElement (node ns k .type) ≡ true) (sym same) element) (rw kind refl)) (omega (arith, alone, few))))
 
-    element-is : eqb (word table r TYPE) ELEMENT ≡ true → isNamed table flags r ≡ true → elementSettled notes tops path r ≡ means ns r
+    pub element-is : eqb (word table r TYPE) ELEMENT ≡ true → q ≡ placeOf table r → elementSettled notes tops path r ≡ means ns r
     unfolding means elementMeans
-    element-is t named =
+    element-is t at =
         let kind : node ns r .type ≡ ELEMENT = type-word table pool r below ∙ eqb-true (word table r TYPE) ELEMENT t in
-        let place : q ≡ r + 1 = at named ∙ rw t refl in
+        let place : q ≡ r + 1 = at ∙ rw t refl in
         rw (eq-eqb (node ns r .type) ELEMENT kind)
         (named-as r (subst (Standing table notes tops path) place standing) below (rw kind refl) r below (rw kind refl) .0)
 
-    attribute-is : inSubtree ns e r ≡ true → eqb (word table r TYPE) ELEMENT ≡ false → eqb (word table r TYPE) ATTRIBUTE ≡ true → isNamed table flags r ≡ true → attributeSettled notes tops path r ≡ means ns r
+    pub attribute-is :
+        (e : ℕ) → isElement (node ns e .type) ≡ true → inSubtree ns e r ≡ true → eqb (word table r TYPE) ELEMENT ≡ false → eqb (word table r TYPE) ATTRIBUTE ≡ true → q ≡ placeOf table r
+        → attributeSettled notes tops path r ≡ means ns r
     unfolding means attributeMeans up
-    attribute-is inside t u named =
+    attribute-is e element inside t u at =
         let kind : node ns r .type ≡ ATTRIBUTE = type-word table pool r below ∙ eqb-true (word table r TYPE) ATTRIBUTE u in
-        let o = owned inside kind in
+        let o = owned e element inside kind in
         let parent = parent-word table pool r below in
         let row : r + 1 - 1 ≡ r = omega arith in
         let less : word table r PARENT < r = subst (λ (k : ℕ). k < r) parent (o .0) in
-        let place : q ≡ node ns r .parent + 1 = at named ∙ rw (t, row, lt-ltb (word table r PARENT) r less, parent) refl in
+        let place : q ≡ node ns r .parent + 1 = at ∙ rw (t, row, lt-ltb (word table r PARENT) r less, parent) refl in
         rw (ne-eqb (node ns r .type) ELEMENT (λ z. omega (arith, kind)))
         (named-as (node ns r .parent) (subst (Standing table notes tops path) place standing) (omega (arith, o .0)) (o .1) r below (rw kind refl) .1)
 
+  module _ (flags : List ℕ) (e : ℕ) (flagged : Flagged table flags e (rowCount table)) (element : isElement (node ns e .type) ≡ true) (q : ℕ) (standing : Standing table notes tops path q)
+      (r : ℕ) (below : r < rowCount table) (at : isNamed table flags r ≡ true → q ≡ placeOf table r) where
     pub unsettled-is : isUnsettled table notes tops path flags r ≡ undeclared ns e r
     unfolding isUndeclared
     unsettled-is =
         let flag = flag-is table pool flags e flagged r below in
+        let kinds = in-kinds q standing r below in
         by-cases (inSubtree ns e r)
         (λ i.
         by-cases (eqb (word table r TYPE) ELEMENT)
         (λ t.
-        rw (flag, in-flag, i, t)
-        (ap not (element-is t (rw (flag, i, t) refl))))
+        rw (flag, kinds, i, t)
+        (ap not (element-is q standing r below t (at (rw (flag, i, t) refl)))))
         (λ t.
         by-cases (eqb (word table r TYPE) ATTRIBUTE)
-        (λ u. rw (flag, in-flag, i, t, u) (ap not (attribute-is i t u (rw (flag, i, t, u) refl))))
-        (λ u. rw (flag, in-flag, i, t, u) refl)))
+        (λ u. rw (flag, kinds, i, t, u) (ap not (attribute-is q standing r below e element i t u (at (rw (flag, i, t, u) refl)))))
+        (λ u. rw (flag, kinds, i, t, u) refl)))
         (λ i. rw (flag, i) refl)
 
 -- The loop of refusal 23 has come to row r.

@@ -1,20 +1,24 @@
 -- Pieces of markup that are put one behind the other.
 -- Assumes nothing.
-use Prim.Native.Nat.{ℕ, _+_}
-use mathlib.Core.Path.{_≡_, sym, _∙_}
+use Prim.Native.Nat.{ℕ, _+_, _-_, _≤_}
+use mathlib.Core.Path.{_≡_, sym, ap, _∙_}
 use mathlib.Core.Bool.{Bool, true, false}
 use mathlib.Core.List.{List, [], _∷_}
 use borrow.Author.Tests.{eqb-true, eq-eqb, ne-eqb}
+use native.Mathlib.Omega.{arith}
 use lib.Dec.{eqb}
-use lib.ListN.{length, getD}
+use lib.ListN.{length, getD, take, drop, length-drop}
+use lib.Seq.{take-all}
 use Rattle.rules.specs.Lists.{isEmpty, allOf}
 use Rattle.rules.specs.Table.{VALUE, DECLARATION, Node, nodeAt, word, xmlnsPrefix}
+use Rattle.rules.specs.declared.Place.{Place}
 use Rattle.rules.proofs.Lists.{length-empty}
+use Rattle.rows.specs.Reading.{placeAt}
 use Rattle.buffers.specs.Writes.{Put}
 use Rattle.buffers.proofs.Writes.{put-behind}
 use Rattle.escapes.specs.Escapes.{escaped}
-use Rattle.escapes.specs.Runs.{isPlain}
-use Rattle.escapes.proofs.Runs.{part-plain}
+use Rattle.escapes.specs.Runs.{isPlain, Known}
+use Rattle.escapes.proofs.Runs.{known-put, part-plain, part-measured}
 use Rattle.markup.specs.Trees.{Qualified, qualifiedName, declarationName, attributeName}
 use Rattle.markup.specs.Markup.{nameMarkup, attributeMarkup, endTag}
 use Rattle.tags.specs.Marks.{Marked}
@@ -77,9 +81,31 @@ module _ {t : List ℕ} {at : ℕ} {r : ℕ} {t′ : List ℕ} where
   pub prefix-read : {prefix : List ℕ} (n : Node) → prefix ≡ n .local .bytes → Put t at (nameMarkup (declarationName prefix)) r t′ → Put t at (nameMarkup (declarationName (n .local .bytes))) r t′
   prefix-read n e p = rw (← e) p
 
--- A value that is read from a pool of which no byte is escaped.
-pub value-plain :
-    (table pool marks : List ℕ) (r : ℕ) {value : List ℕ} {plain : Bool} → Marked pool marks → value ≡ nodeAt table pool r .value .bytes → plain ≡ eqb (getD marks 0 0) 1
-    → plain ≡ true → allOf (isPlain true) value ≡ true
-value-plain table pool marks r m e told known =
-    rw e (part-plain pool (word table r VALUE) (word table r (VALUE + 1)) (m .plain (eqb-true (getD marks 0 0) 1 (sym told ∙ known))))
+-- The words of a field, by its place.
+module _ (table : List ℕ) (r field : ℕ) {place : Place} (is : place ≡ placeAt table r field) where
+  pub place-offset : place .offset .0 ≡ word table r field
+  place-offset = ap (λ (p : Place). p .offset .0) is
+
+  pub place-length : place .length ≡ word table r (field + 1)
+  place-length = ap (λ (p : Place). p .length) is
+
+-- The lengths from the value's offset on.
+pub runs-from : (table runs : List ℕ) (r : ℕ) {offset : ℕ} → offset ≡ word table r VALUE → take (length runs - offset) (drop offset runs) ≡ drop (word table r VALUE) runs
+runs-from table runs r {offset} is =
+    let all : length (drop offset runs) ≤ length runs - offset = rw length-drop (omega arith) in
+    take-all (length runs - offset) (drop offset runs) all ∙ ap (λ (k : ℕ). drop k runs) is
+
+-- What is known of a value that is read from the pool.
+module _ (table pool : List ℕ) {marks runs : List ℕ} (r : ℕ) (m : Marked pool marks runs) {value : List ℕ} (is : value ≡ nodeAt table pool r .value .bytes) where
+  value-plain : {plain : Bool} → plain ≡ eqb (getD marks 0 0) 1 → plain ≡ true → allOf (isPlain true) value ≡ true
+  value-plain told known =
+      rw is (part-plain pool (word table r VALUE) (word table r (VALUE + 1)) (m .plain (eqb-true (getD marks 0 0) 1 (sym told ∙ known))))
+
+  pub plain-value : (quoted : Bool) {t : List ℕ} {at end : ℕ} {t′ : List ℕ} {plain : Bool} → plain ≡ eqb (getD marks 0 0) 1 → plain ≡ true → Put t at value end t′ → Put t at (escaped quoted (nodeAt table pool r .value .bytes)) end t′
+  plain-value quoted {t} {at} told known p = value-read quoted (nodeAt table pool r) is (known-put quoted value t at (value-plain told known) p)
+
+  pub value-known : {part : List ℕ} → ((length part ≡ 0 → ⊥) → part ≡ drop (word table r VALUE) runs) → Known value part
+  value-known told some =
+      let same = told some in
+      let any : length runs ≡ 0 → ⊥ = λ none. some (rw same (omega (arith, length-drop (word table r VALUE) runs))) in
+      rw (is, same) (part-measured pool runs (word table r VALUE) (word table r (VALUE + 1)) (m .known any))

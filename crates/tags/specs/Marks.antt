@@ -1,13 +1,26 @@
 -- What is known of the pool while markup is put.
-use Prim.Native.Nat.{ℕ, _<_}
+use Prim.Native.Nat.{ℕ, _+_, _≤_, _<_}
 use mathlib.Core.Path.{_≡_}
 use mathlib.Core.Bool.{true}
 use mathlib.Core.List.{List}
 use lib.ListN.{length, getD}
 use Rattle.rules.specs.Lists.{allOf}
-use Rattle.escapes.specs.Runs.{isPlain}
+use Rattle.rules.specs.Table.{PREFIX, LOCAL-NAME, URI, VALUE, rowCount, word}
+use Rattle.escapes.specs.Runs.{isPlain, Known}
 
--- Where the first word is 1, no byte of the pool is escaped.
-pub record Marked (pool marks : List ℕ) : Type 0 where
+-- Where the first word is 1, no byte of the pool is escaped. The lengths of the pool's runs may be known.
+pub record Marked (pool marks runs : List ℕ) : Type 0 where
   pub room : 0 < length marks
   pub plain : getD marks 0 0 ≡ 1 → allOf (isPlain true) pool ≡ true
+  pub known : Known pool runs
+
+-- The field of row r whose offset is this word lies in the pool.
+abbrev pub InPool : List ℕ → List ℕ → ℕ → ℕ → Type 0
+InPool table pool r field = word table r field + word table r (field + 1) ≤ length pool
+
+-- All fields of all rows lie in the pool.
+pub record Pooled (table pool : List ℕ) : Type 0 where
+  pub prefix : (r : ℕ) → r < rowCount table → InPool table pool r PREFIX
+  pub local : (r : ℕ) → r < rowCount table → InPool table pool r LOCAL-NAME
+  pub uri : (r : ℕ) → r < rowCount table → InPool table pool r URI
+  pub value : (r : ℕ) → r < rowCount table → InPool table pool r VALUE

@@ -1,15 +1,16 @@
 // The markup of single rows: names, attributes, end tags, texts. Each piece is put behind what was put before it.
 ghost use mathlib.Core.Path.{_≡_};
-ghost use mathlib.Core.Bool.{false};
+ghost use mathlib.Core.Bool.{true, false};
 ghost use Prim.Native.Nat.{_<_};
 ghost use lib.Dec.{eqb};
-ghost use lib.ListN.{length, getD};
-ghost use Rattle.rules.specs.Table.{rowCount, nodeAt};
+ghost use lib.ListN.{length, getD, drop};
+ghost use Rattle.rules.specs.Table.{VALUE, rowCount, fieldAt, nodeAt, word};
+ghost use Rattle.rows.specs.Reading.{HasField};
 ghost use Rattle.buffers.specs.Writes.{Put};
 ghost use Rattle.escapes.specs.Escapes.{escaped};
 ghost use Rattle.markup.specs.Trees.{qualifiedName, declarationName, attributeName, writtenAttribute};
 ghost use Rattle.markup.specs.Markup.{nameMarkup, attributeMarkup, endTag};
-ghost use Rattle.tags.specs.Marks.{Marked};
+ghost use Rattle.tags.specs.Marks.{Marked, InPool, Pooled};
 use rules::Row;
 
 // A text row.
@@ -17,16 +18,21 @@ pub fn put_text(
     table: &[u32],
     pool: &[u8],
     marks: &[u16],
+    runs: &[u16],
     out: &mut [u8],
     at: usize,
     row: Row,
 ) -> usize
     requires { ⌜ row .0 < rowCount (now table) ⌝ }
-    requires { ⌜ Marked (now pool) (now marks) ⌝ }
+    requires { ⌜ Marked (now pool) (now marks) (now runs) ⌝ }
+    requires { ⌜ Pooled (now table) (now pool) ⌝ }
     ensures { λ r. ⌜ Put (now (out .entry)) at (escaped false (nodeAt (now (table .entry)) (now (pool .entry)) (row .0) .value .bytes)) r (now (out .exit)) ⌝ }
 {
-    let value = rows::field(table, pool, row, rules::VALUE);
-    escapes::write_value(out, at, value, false, is_plain(marks))
+    let value = field_within(table, pool, row, rules::VALUE);
+    if is_plain(marks) {
+        return buffers::put_bytes(out, at, value);
+    }
+    escapes::write_value(out, at, value, value_runs(table, row, runs), false)
 }
 
 // An attribute or a declaration, after one space.
@@ -34,20 +40,55 @@ pub fn put_attribute(
     table: &[u32],
     pool: &[u8],
     marks: &[u16],
+    runs: &[u16],
     out: &mut [u8],
     at: usize,
     row: Row,
 ) -> usize
     requires { ⌜ row .0 < rowCount (now table) ⌝ }
-    requires { ⌜ Marked (now pool) (now marks) ⌝ }
+    requires { ⌜ Marked (now pool) (now marks) (now runs) ⌝ }
+    requires { ⌜ Pooled (now table) (now pool) ⌝ }
     ensures { λ r. ⌜ Put (now (out .entry)) at (attributeMarkup (writtenAttribute (nodeAt (now (table .entry)) (now (pool .entry)) (row .0)))) r (now (out .exit)) ⌝ }
 {
     let name = buffers::put_bytes(out, at, &[32]);
     let equals = put_attribute_name(table, pool, row, out, name);
     let quote = buffers::put_bytes(out, equals, &[61, 34]);
-    let value = rows::field(table, pool, row, rules::VALUE);
-    let end = escapes::write_value(out, quote, value, true, is_plain(marks));
+    let end = put_quoted(table, pool, marks, runs, out, quote, row);
     buffers::put_bytes(out, end, &[34])
+}
+
+// The value of an attribute or a declaration, without its quotes.
+fn put_quoted(
+    table: &[u32],
+    pool: &[u8],
+    marks: &[u16],
+    runs: &[u16],
+    out: &mut [u8],
+    at: usize,
+    row: Row,
+) -> usize
+    requires { ⌜ row .0 < rowCount (now table) ⌝ }
+    requires { ⌜ Marked (now pool) (now marks) (now runs) ⌝ }
+    requires { ⌜ Pooled (now table) (now pool) ⌝ }
+    ensures { λ r. ⌜ Put (now (out .entry)) at (escaped true (nodeAt (now (table .entry)) (now (pool .entry)) (row .0) .value .bytes)) r (now (out .exit)) ⌝ }
+{
+    let value = field_within(table, pool, row, rules::VALUE);
+    if is_plain(marks) {
+        return buffers::put_bytes(out, at, value);
+    }
+    escapes::write_value(out, at, value, value_runs(table, row, runs), true)
+}
+
+// The lengths of the runs of a row's value, if they are known.
+fn value_runs<'r>(table: &[u32], row: Row, runs: &'r [u16]) -> &'r [u16]
+    requires { ⌜ row .0 < rowCount (now table) ⌝ }
+    ensures { λ r. ⌜ ((length (now r) ≡ 0 → ⊥) → now r ≡ drop (word (now (table .entry)) (row .0) VALUE) (now (runs .entry))) ⌝ }
+{
+    let offset = rows::wide(rows::place(table, row, rules::VALUE).offset.0);
+    if offset < runs.len() {
+        return &runs[offset..];
+    }
+    &runs[..0]
 }
 
 // The first word tells that no byte of the pool is escaped.
@@ -61,6 +102,7 @@ fn is_plain(marks: &[u16]) -> bool
 // The end tag of an element.
 pub fn put_end_tag(table: &[u32], pool: &[u8], row: Row, out: &mut [u8], at: usize) -> usize
     requires { ⌜ row .0 < rowCount (now table) ⌝ }
+    requires { ⌜ Pooled (now table) (now pool) ⌝ }
     ensures { λ r. ⌜ Put (now (out .entry)) at (endTag (qualifiedName (nodeAt (now (table .entry)) (now (pool .entry)) (row .0)))) r (now (out .exit)) ⌝ }
 {
     let name = buffers::put_bytes(out, at, &[60, 47]);
@@ -71,10 +113,11 @@ pub fn put_end_tag(table: &[u32], pool: &[u8], row: Row, out: &mut [u8], at: usi
 // The name of an attribute or a declaration.
 fn put_attribute_name(table: &[u32], pool: &[u8], row: Row, out: &mut [u8], at: usize) -> usize
     requires { ⌜ row .0 < rowCount (now table) ⌝ }
+    requires { ⌜ Pooled (now table) (now pool) ⌝ }
     ensures { λ r. ⌜ Put (now (out .entry)) at (nameMarkup (attributeName (nodeAt (now (table .entry)) (now (pool .entry)) (row .0)))) r (now (out .exit)) ⌝ }
 {
     if rows::kind(table, row) == rules::DECLARATION {
-        let prefix = rows::field(table, pool, row, rules::LOCAL_NAME);
+        let prefix = field_within(table, pool, row, rules::LOCAL_NAME);
         return put_declaration_name(out, at, prefix);
     }
     put_row_name(table, pool, row, out, at)
@@ -93,11 +136,23 @@ fn put_declaration_name(out: &mut [u8], at: usize, prefix: &[u8]) -> usize
 // The name of an element or an attribute, as its row has it.
 pub fn put_row_name(table: &[u32], pool: &[u8], row: Row, out: &mut [u8], at: usize) -> usize
     requires { ⌜ row .0 < rowCount (now table) ⌝ }
+    requires { ⌜ Pooled (now table) (now pool) ⌝ }
     ensures { λ r. ⌜ Put (now (out .entry)) at (nameMarkup (qualifiedName (nodeAt (now (table .entry)) (now (pool .entry)) (row .0)))) r (now (out .exit)) ⌝ }
 {
-    let prefix = rows::field(table, pool, row, rules::PREFIX);
-    let local = rows::field(table, pool, row, rules::LOCAL_NAME);
+    let prefix = field_within(table, pool, row, rules::PREFIX);
+    let local = field_within(table, pool, row, rules::LOCAL_NAME);
     put_name(out, at, prefix, local)
+}
+
+// The bytes of a field of a row that lies in the pool.
+fn field_within<'p>(table: &[u32], pool: &'p [u8], row: Row, field: u32) -> &'p [u8]
+    requires { ⌜ HasField (now table) (row .0) field ⌝ }
+    requires { ⌜ InPool (now table) (now pool) (row .0) field ⌝ }
+    ensures { λ r. ⌜ now r ≡ fieldAt (now (table .entry)) (now (pool .entry)) (row .0) field .bytes ⌝ }
+{
+    let place = rows::place(table, row, field);
+    let start = rows::wide(place.offset.0);
+    &pool[start..start + rows::wide(place.length)]
 }
 
 // A name: its prefix and a colon, if it has one, and its local name.

@@ -1,9 +1,9 @@
 -- The links of an accepted table, and what putting a text at the start of an output leaves.
 -- Assumes nothing.
 use Prim.Native.Nat.{ℕ, _+_, _-_, _*_, _≤_, _<_}
-use mathlib.Core.Path.{_≡_, sym, ap, _∙_}
+use mathlib.Core.Path.{_≡_, refl, sym, ap, subst, _∙_}
 use mathlib.Core.Bool.{Bool, true, false}
-use mathlib.Core.List.{List, _++_}
+use mathlib.Core.List.{List, [], _++_}
 use mathlib.Core.Option.{none}
 use mathlib.Core.Logic.{_⊎_, inl, inr}
 use native.Mathlib.Omega.{arith}
@@ -13,14 +13,14 @@ use lib.Dec.{eqb, ltb}
 use lib.ListN.{length, getD, take, drop, replicate, length-replicate, getD-replicate, List·getD-eq-default}
 use lib.Seq.{take-append-seam}
 use Rattle.rules.specs.Lists.{allOf, isOneOf}
-use Rattle.rules.specs.Table.{NONE, MOST-ROWS, TYPE, PARENT, nodes, node, rowCount, word}
+use Rattle.rules.specs.Table.{NONE, MOST-ROWS, MOST-BYTES, TYPE, PARENT, nodes, node, nodeAt, rowCount, word}
 use Rattle.rules.specs.Refusals.{checkRefusal}
 use Rattle.rules.specs.Normalization.{padded}
 use Rattle.rules.specs.declared.Refusal.{Refusal}
 use Rattle.rules.specs.declared.Written.{Written}
 use Rattle.rules.proofs.Lists.{by-cases, both-true}
-use Rattle.rules.proofs.Table.{length-nodes}
-use Rattle.rules.proofs.Accepted.{unrefused, few-rows, parent-falls}
+use Rattle.rules.proofs.Table.{length-nodes, node-nodes}
+use Rattle.rules.proofs.Accepted.{unrefused, few-rows, parent-falls, FieldsAccepted, fields-accepted}
 use Rattle.rows.proofs.Words.{parent-word}
 use Rattle.notes.specs.Notes.{NOTES, PREFIX, LATEST, FIRST, noteAt, noted}
 use Rattle.notes.proofs.Laws.{length-noted, noted-same, noted-other}
@@ -30,9 +30,8 @@ use Rattle.bundles.specs.Operations.{WriteOutcome, writeRefused, writeDone}
 use Rattle.escapes.specs.Runs.{isPlain}
 use Rattle.children.specs.Children.{kinds, isUnder, firstWord, Listed}
 use Rattle.children.proofs.Linking.{kept-words}
-use Rattle.tags.specs.Marks.{Marked}
-use Rattle.content.specs.Content.{Linked}
-use Rattle.writer.specs.Elements.{fitted, Clear}
+use Rattle.tags.specs.Marks.{Pooled}
+use Rattle.writer.specs.Elements.{fitted, Clear, Writable}
 
 -- Zeros are clear.
 pub zeros-clear : (table : List ℕ) (size : ℕ) → NOTES * rowCount table ≤ size → Clear table (replicate size 0)
@@ -51,6 +50,21 @@ module _ (table pool : List ℕ) (accepted : checkRefusal table pool ≡ none) w
   pub few : rowCount table ≤ MOST-ROWS
   few = few-rows table pool (unrefused table pool accepted .size)
 
+  pub few-bytes : length pool ≤ MOST-BYTES
+  few-bytes = unrefused table pool accepted .size .poolBound
+
+  pub pooled : Pooled table pool
+  pooled =
+      let fields : (r : ℕ) → r < rowCount table → FieldsAccepted (length pool) (nodeAt table pool r) = λ r h.
+      subst (FieldsAccepted (length pool)) (node-nodes table pool r h)
+      (fields-accepted (nodes table pool) (length pool) r (unrefused table pool accepted .row r (rw length-nodes h))) in
+      record {
+        prefix = λ r h. fields r h .prefix .inPool;
+        local = λ r h. fields r h .local .inPool;
+        uri = λ r h. fields r h .uri .inPool;
+        value = λ r h. fields r h .value .inPool;
+      }
+
   -- What is in an element's content stands behind it.
   later : (e d : ℕ) → e < rowCount table → 0 < d → d ≤ rowCount table → isUnder false table e d ≡ true → e + 1 < d
   later e d h i j under =
@@ -66,23 +80,26 @@ module _ (table pool : List ℕ) (accepted : checkRefusal table pool ≡ none) w
 
   -- The links, with the mark of the pool in the first word.
   pub marked :
-      (links links₁ links₂ : List ℕ) (mark : ℕ) → Clear table links → length links₁ ≡ length links → 0 < rowCount table → ((owned : Bool) → Listed (isUnder owned table) (firstWord owned) links₁ (rowCount table) 0)
-      → links₂ ≡ noted links₁ 0 PREFIX mark → (mark ≡ 1 → allOf (isPlain true) pool ≡ true) → Linked table links₂ × Marked pool links₂
+      (links links₁ links₂ : List ℕ) (mark e : ℕ) → Clear table links → length links₁ ≡ length links → e < rowCount table → ((owned : Bool) → Listed (isUnder owned table) (firstWord owned) links₁ (rowCount table) 0)
+      → links₂ ≡ noted links₁ 0 PREFIX mark → (mark ≡ 1 → allOf (isPlain true) pool ≡ true) → Writable table pool links₂ [] e
   unfolding noteAt
-  marked links links₁ links₂ mark clear size some listed is told =
+  marked links links₁ links₂ mark e clear size within listed is told =
       let room : NOTES * rowCount table ≤ length links₁ = rw size (clear .room) in
       let long : length links₂ ≡ length links₁ = rw is (length-noted links₁ 0 PREFIX mark) in
       let first : getD links₂ 0 0 ≡ mark = rw is (noted-same links₁ 0 PREFIX mark (omega arith)) in
-      let other : (q k : ℕ) → k < NOTES → 0 < k → noteAt links₂ q k ≡ noteAt links₁ q k = λ q k h i. rw is (noted-other links₁ 0 PREFIX mark q k (omega arith) h (λ e f. absurd (omega arith))) in (
-        record {
+      let other : (q k : ℕ) → k < NOTES → 0 < k → noteAt links₂ q k ≡ noteAt links₁ q k = λ q k h i. rw is (noted-other links₁ 0 PREFIX mark q k (omega arith) h (λ e f. absurd (omega arith))) in
+      record {
+        within = within;
+        linked = record {
           few = few;
           room = rw long room;
           owned = kept-words (isUnder true table) links₁ links₂ (rowCount table) 0 FIRST (λ q. other q FIRST (omega arith) (omega arith)) (λ q. other q (FIRST + 1) (omega arith) (omega arith)) (listed true);
           content = kept-words (isUnder false table) links₁ links₂ (rowCount table) 0 LATEST (λ q. other q LATEST (omega arith) (omega arith)) (λ q. other q (LATEST + 1) (omega arith) (omega arith)) (listed false);
           later = later;
-        },
-        record { room = omega arith; plain = λ e. told (sym first ∙ e) },
-      )
+        };
+        marked = record { room = omega arith; plain = λ e. told (sym first ∙ e); known = λ some. absurd (some refl) };
+        pooled = pooled;
+      }
 
 -- What a call answers and leaves is an outcome.
 abbrev pub Leaves : WriteOutcome → Written → List ℕ → Type 0

@@ -29,11 +29,15 @@ use Rattle.scopes.proofs.Changes.{standing-start}
 use Rattle.declarations.specs.Meant.{Meant}
 use Rattle.declarations.proofs.Meanings.{meant-relinked}
 use Rattle.beginning.specs.Ground.{Ground}
-use Rattle.characters.specs.Characters.{holdsForbidden}
+use Rattle.characters.specs.Characters.{holdsForbidden, forbiddenFrom}
 use Rattle.markup.specs.Writing.{elementToWrite, inSubtree, lowestRow, hasNoMarkup, isInherited, subtreeRefusal, textRefusal, textWritten}
+use Rattle.subtree.proofs.Parts.{clean-accepted}
 use Rattle.meanings.specs.Names.{Walkable, undeclared}
+use Rattle.meanings.specs.Writable.{isTop, Writable}
+use Rattle.meanings.proofs.Names.{walkable-kept}
+use Rattle.meanings.proofs.Writable.{none-level1, none-unwritten, none-undeclared, none-inherited}
 use Rattle.writer.specs.Elements.{fitted, elementText}
-use Rattle.writer.specs.Judging.{Lent, Prepared, Writes, WrittenFrom}
+use Rattle.writer.specs.Judging.{Lent, Prepared, Unrefused, Writes, WrittenFrom}
 use Rattle.writer.specs.declared.Judged.{Judged}
 use Rattle.writer.proofs.Elements.{Leaves, few}
 use Rattle.writer.proofs.Outcome.{level1-refused, no-element, subtree-refused, element-left}
@@ -65,51 +69,65 @@ module _ {table pool notes₀ notes tops path : List ℕ} {r x : ℕ} (lent : Le
   unfolding xmlPrefix
   xml-meant = ground .meant
 
-  pub prepared : {path′ : List ℕ} → path′ ≡ set path (4 * 0 + NUMBERED) x → Prepared table pool notes tops path′
-  prepared {path′} is =
-      let placed = lent .placed (ground .unlinked .few) in
-      let same : length path′ ≡ length path = ap length is ∙ length-set path (4 * 0 + NUMBERED) x in
-      let number : underAt path′ NUMBERED 0 ≡ x = ap (λ (l : List ℕ). underAt l NUMBERED 0) is ∙ getD-set-same path (4 * 0 + NUMBERED) x 0 (omega arith) in
-      record {
-        meant = rw number xml-meant;
-        unlinked = ground .unlinked .none;
-        noted = ground .unlinked .noted;
-        topped = lent .topped (ground .unlinked .few);
-        placed = rw same placed;
-        cleared = lent .unstacked;
-        unpushed = ap (λ (l : List ℕ). underAt l BELOW 0) is ∙ getD-set-other path (4 * 0 + NUMBERED) (4 * 0 + BELOW) x 0 (λ z. omega arith) ∙ lent .unplaced (4 * 0 + BELOW);
-      }
-
--- The declarations linked.
-module _ {table pool notes tops path : List ℕ} (p : Prepared table pool notes tops path) where
-  pub is-accepted : checkRefusal table pool ≡ none
+  accepted-ground : checkRefusal table pool ≡ none
   unfolding checked
-  is-accepted = verdict-accepted (checkRefusal table pool) (p .meant .accepted)
+  accepted-ground = verdict-accepted (checkRefusal table pool) (ground .meant .accepted)
 
-  pub few-prepared : rowCount table ≤ MOST-ROWS
-  few-prepared = few table pool is-accepted
-
-  module _ {linked : List ℕ} (size : length linked ≡ length notes) (links : Linked table linked (rowCount table)) (kept : Relinked notes linked) where
-    pub walkable : Walkable table pool linked tops path
+  -- The number of xml stored, the declarations linked.
+  module _ {path′ : List ℕ} (is : path′ ≡ set path (4 * 0 + NUMBERED) x) {linked : List ℕ} (size : length linked ≡ length notes) (links : Linked table linked (rowCount table)) (kept : Relinked notes linked) where
+    walkable : Walkable table pool linked tops path′
     walkable =
-        let m = meant-relinked linked (p .meant) kept in
+        let m = meant-relinked linked xml-meant kept in
+        let number : underAt path′ NUMBERED 0 ≡ x = ap (λ (l : List ℕ). underAt l NUMBERED 0) is ∙ getD-set-same path (4 * 0 + NUMBERED) x 0 (omega (arith, path-room)) in
+        let same : length path′ ≡ length path = ap length is ∙ length-set path (4 * 0 + NUMBERED) x in
         record {
-          accepted = is-accepted;
+          accepted = accepted-ground;
           spelling = m .spelling;
           names = m .last;
           spelled = m .numbered .spelled;
           numbered = λ r within.
               let below : r < rowCount table = subst (λ (k : ℕ). r < k) (length-nodes table pool) within in
               rw (node-nodes table pool r below) (m .numbered .rows r below);
-          xml = m .asked;
-          topped = omega (arith, m .few, p .topped);
-          noted = rw size (p .noted);
-          placed = p .placed;
+          xml = λ n bytes named. ap (eqb n) number ∙ m .asked n bytes named;
+          topped = omega (arith, m .few, lent .topped (ground .unlinked .few));
+          noted = rw size (ground .unlinked .noted);
+          placed = rw same (lent .placed (ground .unlinked .few));
           linked = links;
         }
 
-    pub standing-nowhere : Standing table linked tops path 0
-    standing-nowhere = standing-start table linked tops path (p .cleared) (p .unpushed)
+    pub prepared : Prepared table pool linked tops path′
+    prepared =
+        let unpushed = ap (λ (l : List ℕ). underAt l BELOW 0) is ∙ getD-set-other path (4 * 0 + NUMBERED) (4 * 0 + BELOW) x 0 (λ z. omega arith) ∙ lent .unplaced (4 * 0 + BELOW) in
+        record { walkable = walkable; standing = standing-start table linked tops path′ (lent .unstacked) unpushed }
+
+module _ {table pool notes tops path : List ℕ} (p : Prepared table pool notes tops path) where
+  pub is-accepted : checkRefusal table pool ≡ none
+  is-accepted = p .walkable .accepted
+
+  pub few-prepared : rowCount table ≤ MOST-ROWS
+  few-prepared = few table pool is-accepted
+
+  -- The arrays went through the rows and back.
+  pub prepared-again : (tops′ path′ : List ℕ) → length tops′ ≡ length tops → length path′ ≡ length path → underAt path′ NUMBERED 0 ≡ underAt path NUMBERED 0 → Standing table notes tops′ path′ 0 → Prepared table pool notes tops′ path′
+  prepared-again tops′ path′ ts ps kept standing = record { walkable = walkable-kept (p .walkable) tops′ path′ ts ps kept; standing = standing }
+
+  -- What is clear is not refused.
+  pub unrefused-clear :
+      (e : ℕ) → e < rowCount table → isTop table e ≡ true → forbiddenFrom pool ≡ false → ((q : ℕ) → q < rowCount table → Writable (nodes table pool) q) → Unrefused table pool e
+  unfolding subtreeRefusal
+  unrefused-clear e within top clean all =
+      record {
+        within = within;
+        level2 = none-level1 (p .walkable) all;
+        subtree = λ start element.
+            rw (
+              none-unwritten (p .walkable) all e element,
+              verdict-accepted (lowestRow (nodes table pool) (λ (r : ℕ). inSubtree (nodes table pool) e r && holdsForbidden (node (nodes table pool) r .value .bytes)) Refusal.Character) (sym (clean-accepted table pool is-accepted clean e)),
+              none-undeclared (p .walkable) all e element,
+              none-inherited table pool e within element top,
+            )
+            refl;
+      }
 
 -- The element that is written is one, and a row.
 chosen : (ns : List Node) (start e : ℕ) → elementToWrite ns start ≡ some e → isElement (node ns e .type) ≡ true
@@ -219,6 +237,14 @@ module _ (table pool : List ℕ) (start : ℕ) where
             within = within;
             outcome = λ size. element-left table pool start size begun later e element-chosen (verdict-accepted (subtreeRefusal (nodes table pool) start (some e)) (sym told ∙ is));
           }
+
+-- What is not refused is written.
+pub judged-clear :
+    (table pool : List ℕ) (start : ℕ) → checkRefusal table pool ≡ none → lookupRefusal table pool start ≡ none → (e : Row) → e .0 ≡ rowOr (elementToWrite (nodes table pool) start) → Unrefused table pool (e .0)
+    → WrittenFrom table pool start (Judged.Element e)
+judged-clear table pool start accepted begun e found clear =
+    let kind = element-kind table pool start accepted begun (clear .level2) (e .0) found (clear .within) in
+    judged-element table pool start e (judged-written table pool start accepted begun (clear .level2) (e .0) found (clear .within) (sym (ap verdict (clear .subtree start kind))) refl)
 
 -- What writing leaves.
 pub element-written : {table pool : List ℕ} {start e : ℕ} → Writes table pool start e → (size : ℕ) {answer : Written} {out : List ℕ} → Leaves (fitted size (elementText table pool e)) answer out → Leaves (textWritten table pool start size) answer out

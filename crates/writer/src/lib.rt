@@ -1,18 +1,19 @@
 // The tree of a table as XML text.
 ghost use mathlib.Core.Path.{_≡_};
 ghost use mathlib.Core.Bool.{true};
+ghost use mathlib.Core.List.{[]};
 ghost use mathlib.Core.Option.{none, some};
-ghost use Prim.Native.Nat.{ℕ, _<_};
+ghost use Prim.Native.Nat.{ℕ, _≤_, _<_};
 ghost use lib.ListN.{length};
 ghost use Rattle.rules.specs.Lists.{allOf};
-ghost use Rattle.rules.specs.Table.{nodes, node, rowCount, isElement};
+ghost use Rattle.rules.specs.Table.{MOST-ROWS, MOST-BYTES, nodes, node, rowCount, isElement};
 ghost use Rattle.rules.specs.Refusals.{checkRefusal, verdict};
 ghost use Rattle.rules.specs.Lookups.{lookupRefusal};
 ghost use Rattle.rules.specs.Normalization.{level1Refusal};
 ghost use Rattle.escapes.specs.Runs.{isPlain};
 ghost use Rattle.markup.specs.Writing.{subtreeRefusal, textWritten};
-ghost use Rattle.writer.specs.Elements.{fitted, elementText, Clear};
-ghost use Rattle.writer.specs.Judging.{Lent, Prepared, WrittenFrom};
+ghost use Rattle.writer.specs.Elements.{fitted, elementText, Clear, Writable};
+ghost use Rattle.writer.specs.Judging.{Lent, Prepared, Unrefused, WrittenFrom};
 use beginning::Begun;
 use rules::Checked;
 use rules::Refusal;
@@ -28,6 +29,9 @@ const SMALL_TOPS: usize = scopes::stacks::TOPS * (3 * checker::FEW_ROWS + 1);
 const PATH: usize = 4 * rules::MOST_ROWS + 4;
 
 const TOPS: usize = scopes::stacks::TOPS * (3 * rules::MOST_ROWS + 1);
+
+// What clearing the lengths of the pool's runs costs, in bytes that are looked at.
+const CLEARING: usize = 4096;
 
 // The element that is written, or a refusal.
 pub enum Judged {
@@ -77,15 +81,61 @@ fn judge_lent(
     ensures { λ r. ⌜ WrittenFrom (now (table .entry)) (now (pool .entry)) (row .0) r ⌝ }
 {
     match beginning::begin(table, pool, row, b"xml", notes) {
-        Begun::Asked(xml) => match levels::level1(table) {
-            Checked::Accepted => {
-                scopes::stacks::set_numbered(path, 0, xml);
-                judge_element(table, pool, row, notes, tops, path)
-            }
-            Checked::Refused(why) => Judged::Refused(why),
-        },
+        Begun::Asked(xml) => {
+            scopes::stacks::set_numbered(path, 0, xml);
+            scopes::link_all(table, notes);
+            judge_row(table, pool, row, notes, tops, path)
+        }
         Begun::Refused(earlier) => Judged::Refused(earlier),
     }
+}
+
+// The same, of a row of a table that draws no refusal before 9. Where nothing is refused, which is the
+// usual case, one pass over the rows tells.
+fn judge_row(
+    table: &[u32],
+    pool: &[u8],
+    row: Row,
+    notes: &[u16],
+    tops: &mut [u16],
+    path: &mut [u16],
+) -> Judged
+    requires { ⌜ Prepared (now table) (now pool) (now notes) (now tops) (now path) ⌝ }
+    requires { ⌜ (lookupRefusal (now table) (now pool) (row .0) ≡ none) × (row .0 < rowCount (now table)) ⌝ }
+    ensures { λ r. ⌜ WrittenFrom (now (table .entry)) (now (pool .entry)) (row .0) r ⌝ }
+{
+    let element = subtree::element_to_write(table, row);
+    if is_clear(table, pool, element, notes, tops, path) {
+        return Judged::Element(element);
+    }
+    match levels::level1(table) {
+        Checked::Accepted => judge_element(table, pool, row, notes, tops, path),
+        Checked::Refused(why) => Judged::Refused(why),
+    }
+}
+
+// Nothing is refused: the element at hand lies in no other one, the pool holds no forbidden character, and
+// every row of the whole table may be written. What is not clear may be refused or not.
+fn is_clear(
+    table: &[u32],
+    pool: &[u8],
+    element: Row,
+    notes: &[u16],
+    tops: &mut [u16],
+    path: &mut [u16],
+) -> bool
+    requires { ⌜ Prepared (now table) (now pool) (now notes) (now tops) (now path) ⌝ }
+    ensures { λ r. ⌜ (r ≡ true → Unrefused (now (table .entry)) (now (pool .entry)) (element .0)) ⌝ }
+    ensures { λ _. ⌜ Prepared (now (table .entry)) (now (pool .entry)) (now (notes .entry)) (now (tops .exit)) (now (path .exit)) ⌝ }
+{
+    if rows::has_row(table, element) {
+        if meanings::is_top(table, element) {
+            if !characters::holds_forbidden(pool) {
+                return meanings::all_writable(table, notes, tops, path);
+            }
+        }
+    }
+    false
 }
 
 // The same, of a row of a table that draws no refusal before 20.
@@ -93,7 +143,7 @@ fn judge_element(
     table: &[u32],
     pool: &[u8],
     row: Row,
-    notes: &mut [u16],
+    notes: &[u16],
     tops: &mut [u16],
     path: &mut [u16],
 ) -> Judged
@@ -116,7 +166,7 @@ fn judge_subtree(
     table: &[u32],
     pool: &[u8],
     element: Row,
-    notes: &mut [u16],
+    notes: &[u16],
     tops: &mut [u16],
     path: &mut [u16],
 ) -> Checked
@@ -134,7 +184,6 @@ fn judge_subtree(
     let Checked::Accepted = characters else {
         return characters;
     };
-    scopes::link_all(table, notes);
     meanings::check_names(table, notes, tops, path, &flags, element)
 }
 
@@ -163,8 +212,61 @@ fn write_linked(table: &[u32], pool: &[u8], row: Row, links: &mut [u16], out: &m
     ensures { λ _. ⌜ now (out .exit) ≡ fitted (length (now (out .entry))) (elementText (now (table .entry)) (now (pool .entry)) (row .0)) .bytes ⌝ }
 {
     children::link_all(table, links);
-    notes::set_note(links, Row(0), notes::PREFIX, mark(pool));
-    let end = content::put_element(table, pool, links, out, 0, row);
+    let mark = mark(pool);
+    notes::set_note(links, Row(0), notes::PREFIX, mark);
+    if is_measured(table, pool, mark) {
+        return write_measured(table, pool, row, links, out);
+    }
+    write_marked(table, pool, row, links, &[0; 0], out)
+}
+
+// Whether the runs of the pool are measured: where one of its bytes is escaped, and the values of all rows together are so long
+// that a look at each of their bytes costs more.
+fn is_measured(table: &[u32], pool: &[u8], mark: u16) -> bool
+    requires { ⌜ rowCount (now table) ≤ MOST-ROWS ⌝ }
+{
+    if mark == 1 {
+        return false;
+    }
+    let mut left = pool.len() + CLEARING;
+    let mut r: u32 = 0;
+    while rows::has_row(table, Row(r)) {
+        let length = rows::wide(rows::place(table, Row(r), rules::VALUE).length);
+        if length >= left {
+            return true;
+        }
+        left -= length;
+        r += 1;
+    }
+    false
+}
+
+// Writes the text with the lengths of the pool's runs.
+fn write_measured(table: &[u32], pool: &[u8], row: Row, links: &[u16], out: &mut [u8]) -> Written
+    requires { ⌜ length (now pool) ≤ MOST-BYTES ⌝ }
+    requires { ⌜ Writable (now table) (now pool) (now links) [] (row .0) ⌝ }
+    ensures { λ r. ⌜ r ≡ fitted (length (now (out .entry))) (elementText (now (table .entry)) (now (pool .entry)) (row .0)) .answer ⌝ }
+    ensures { λ _. ⌜ now (out .exit) ≡ fitted (length (now (out .entry))) (elementText (now (table .entry)) (now (pool .entry)) (row .0)) .bytes ⌝ }
+{
+    let mut runs = [0; rules::MOST_BYTES];
+    escapes::measure_runs(pool, &mut runs);
+    write_marked(table, pool, row, links, &runs, out)
+}
+
+// Writes the text, with the lengths of the pool's runs if there are any.
+fn write_marked(
+    table: &[u32],
+    pool: &[u8],
+    row: Row,
+    links: &[u16],
+    runs: &[u16],
+    out: &mut [u8],
+) -> Written
+    requires { ⌜ Writable (now table) (now pool) (now links) (now runs) (row .0) ⌝ }
+    ensures { λ r. ⌜ r ≡ fitted (length (now (out .entry))) (elementText (now (table .entry)) (now (pool .entry)) (row .0)) .answer ⌝ }
+    ensures { λ _. ⌜ now (out .exit) ≡ fitted (length (now (out .entry))) (elementText (now (table .entry)) (now (pool .entry)) (row .0)) .bytes ⌝ }
+{
+    let end = content::put_element(table, pool, links, runs, out, 0, row);
     if end > out.len() {
         return bundles::refuse(out, Refusal::TextRoom);
     }

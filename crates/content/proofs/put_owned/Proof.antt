@@ -10,54 +10,54 @@ use Rattle.content.proofs.put_owned.Statement.{statement}
 use Rattle.content.proofs.put_owned.Tie as tie
 
 abbrev Inv-loop : tie.InvT-loop
-Inv-loop table pool links out₀ at element to₀ position₀ out to position =
+Inv-loop table pool links runs out₀ at element to₀ position₀ out to position =
     (linked : Linked table links) × (row : element < rowCount table) × Left table pool links element linked row out₀ at out to position
 
 abbrev μ-loop : tie.MeasureT-loop
-μ-loop table pool links out₀ at element to₀ position₀ out to position = left (rowCount table) position
+μ-loop table pool links runs out₀ at element to₀ position₀ out to position = left (rowCount table) position
 
 first-requires : tie.Need-first-requires Inv-loop μ-loop
 first-requires c κs =
-    let s = c .before .before .before .before in
+    let s = c .before .before .before .before .before in
     let room = s .pre .0 .room in
     let row = s .pre .1 .0 in
     omega arith
 
 loop-holds : tie.Need-loop-holds Inv-loop μ-loop
 loop-holds c =
-    let s = c .before .before .before .before .before in
+    let s = c .before .before .before .before .before .before in
     (s .pre .0, s .pre .1 .0, left-start (s .args .table .now) (s .args .pool .now) (s .args .links .now) (s .args .row .0) (s .pre .0) (s .pre .1 .0) (s .args .out .now) (s .args .at) (c .first .result) (c .first .ensures))
 
-cast-t13 : tie.Need-cast-t13 Inv-loop μ-loop
-cast-t13 c = omega arith
+cast-t14 : tie.Need-cast-t14 Inv-loop μ-loop
+cast-t14 c = omega arith
 
-sub-t14 : tie.Need-sub-t14 Inv-loop μ-loop
-sub-t14 c = omega arith
+sub-t15 : tie.Need-sub-t15 Inv-loop μ-loop
+sub-t15 c = omega arith
 
 put-attribute-requires : tie.Need-put-attribute-requires Inv-loop μ-loop
 put-attribute-requires c κs =
     let l = c .before .before in
-    let s = l .before .before .before .before .before .before in
+    let s = l .before .before .before .before .before .before .before in
     (omega (arith, left-row (s .args .table .now) (s .args .pool .now) (s .args .links .now) (s .args .row .0) (l .loop .inv .0) (l .loop .inv .1) (s .args .out .now) (s .args .at) (l .loop .inv .2)), s .pre .1 .1)
 
 next-requires : tie.Need-next-requires Inv-loop μ-loop
 next-requires c κs =
     let l = c .before .before .before .before .before in
-    let s = l .before .before .before .before .before .before in
+    let s = l .before .before .before .before .before .before .before in
     let room = s .pre .0 .room in
     omega (arith, left-row (s .args .table .now) (s .args .pool .now) (s .args .links .now) (s .args .row .0) (l .loop .inv .0) (l .loop .inv .1) (s .args .out .now) (s .args .at) (l .loop .inv .2), l .loop .inv .0 .room)
 
 loop-less : tie.Need-loop-less Inv-loop μ-loop
 loop-less c =
     let l = c .before .before .before .before .before .before in
-    let s = l .before .before .before .before .before .before in
+    let s = l .before .before .before .before .before .before .before in
     let taken = c .before .before .before .before .before .loop-test .taken in
     left-falls (rowCount (s .args .table .now)) (l .loop .position) (c .next .result) taken (left-row (s .args .table .now) (s .args .pool .now) (s .args .links .now) (s .args .row .0) (l .loop .inv .0) (l .loop .inv .1) (s .args .out .now) (s .args .at) (l .loop .inv .2)) (left-later (s .args .table .now) (s .args .pool .now) (s .args .links .now) (s .args .row .0) (l .loop .inv .0) (l .loop .inv .1) (s .args .out .now) (s .args .at) (l .loop .inv .2) taken (c .next .result) (c .next .ensures))
 
 loop-again : tie.Need-loop-again Inv-loop μ-loop
 loop-again c =
     let l = c .before .before .before .before .before .before in
-    let s = l .before .before .before .before .before .before in
+    let s = l .before .before .before .before .before .before .before in
     let taken = c .before .before .before .before .before .loop-test .taken in
     (l .loop .inv .0, l .loop .inv .1, left-next (s .args .table .now) (s .args .pool .now) (s .args .links .now) (s .args .row .0) (l .loop .inv .0) (l .loop .inv .1) (s .args .out .now) (s .args .at) (l .loop .inv .2) taken (c .next .result) (c .next .ensures) (c .before .before .before .put-attribute .ensures))
 
@@ -67,7 +67,7 @@ same-length c = c .before .loop .inv .2 .size
 returns : tie.Need-returns Inv-loop μ-loop
 returns c =
     let l = c .before in
-    let s = l .before .before .before .before .before .before in
+    let s = l .before .before .before .before .before .before .before in
     left-end (s .args .table .now) (s .args .pool .now) (s .args .links .now) (s .args .row .0) (l .loop .inv .0) (l .loop .inv .1) (s .args .out .now) (s .args .at) (l .loop .inv .2) (omega arith)
 
 pub put-owned-spec : {M : Type 1} → statement M
@@ -78,8 +78,8 @@ put-owned-spec =
     μ-loop
     first-requires
     loop-holds
-    cast-t13
-    sub-t14
+    cast-t14
+    sub-t15
     put-attribute-requires
     next-requires
     loop-less

@@ -14,10 +14,12 @@ put-bytes-requires : tie.Need-put-bytes-requires
 put-bytes-requires c κs = search needs
 
 put-row-name-requires : tie.Need-put-row-name-requires
-put-row-name-requires c κs = c .before .before .before .before .before .before .before .before .before .before .pre .1 .0
+put-row-name-requires c κs =
+    let s = c .before .before .before .before .before .before .before .before .before .before .before in
+    (s .pre .1 .0, s .pre .1 .1 .1)
 
 put-owned-requires : tie.Need-put-owned-requires
-put-owned-requires c κs = c .before .before .before .before .before .before .before .before .before .before .before .before .before .before .pre
+put-owned-requires c κs = c .before .before .before .before .before .before .before .before .before .before .before .before .before .before .before .pre
 
 slice-aggregate-put-bytes-2 : tie.Need-slice-aggregate-put-bytes-2
 slice-aggregate-put-bytes-2 c = search needs
@@ -30,7 +32,7 @@ same-length c = search needs
 
 returns : tie.Need-returns
 returns c =
-    let s = c .before .before .before .before .before .before .before .before .before .before .before .before .before .before .before .before .before .before .before .before .before .before in
+    let s = c .before .before .before .before .before .before .before .before .before .before .before .before .before .before .before .before .before .before .before .before .before .before .before in
     let n = qualifiedName (nodeAt (s .args .table .now) (s .args .pool .now) (s .args .row .0)) in
     let owned = writtenAttributes (nodes (s .args .table .now) (s .args .pool .now)) (s .args .row .0) in
     start-put n owned (c .before .before .before .before .before .before .before .before .before .before .before .before .before .before .before .put-bytes .ensures) (c .before .before .before .before .before .before .before .before .before .before .before .put-row-name .ensures) (c .before .before .before .before .before .before .before .put-owned .ensures) (c .before .before .put-bytes2 .ensures)

@@ -1,66 +1,47 @@
--- `escapes::run_end` meets its contract. The invariant: the run that is left decides.
+-- `escapes::run_end` meets its contract.
 -- Assumes nothing.
-use Prim.Native.Nat.{_+_, _-_, _≤_}
-use mathlib.Core.Path.{_≡_, refl, sym, _∙_}
 use native.Mathlib.Omega.{arith}
-use lib.ListN.{length, drop}
 use denote.Ref.{now}
-use Rattle.escapes.specs.Runs.{run}
-use Rattle.escapes.proofs.Runs.{run-byte, run-escape, run-end}
+use borrow.Author.Needs.{needs}
+use Rattle.escapes.proofs.Runs.{end-told, length-told}
 use Rattle.escapes.proofs.run_end.Statement.{statement}
 use Rattle.escapes.proofs.run_end.Tie as tie
 
-abbrev Inv-loop : tie.InvT-loop
-Inv-loop value i quoted end₀ end =
-    (end ≤ length value) × (end + length (run quoted (drop end value)) ≡ i + length (run quoted (drop i value)))
+seen-end-requires : tie.Need-seen-end-requires
+seen-end-requires c κs = search needs
 
-abbrev μ-loop : tie.MeasureT-loop
-μ-loop value i quoted end₀ end = length value - end
+returns : tie.Need-returns
+returns c = end-told _ _ (c .seen-end .ensures)
 
-loop-holds : tie.Need-loop-holds Inv-loop μ-loop
-loop-holds c = (omega arith, refl)
+mul-wide : tie.Need-mul-wide
+mul-wide c = search needs
 
-shared-slice-read-is-escaped : tie.Need-shared-slice-read-is-escaped Inv-loop μ-loop
-shared-slice-read-is-escaped c = omega arith
+shared-slice-read-wide : tie.Need-shared-slice-read-wide
+shared-slice-read-wide c =
+    let s = c .before .before .before .before in
+    omega (arith, s .pre .0, s .pre .1 (c .before .if1 .left) .room)
 
-is-escaped-requires : tie.Need-is-escaped-requires Inv-loop μ-loop
-is-escaped-requires c κs = tt
+wide-requires : tie.Need-wide-requires
+wide-requires c κs = search needs
 
-returns : tie.Need-returns Inv-loop μ-loop
-returns c =
-    let l = c .before .before .before .before in
-    let s = l .before .before in
-    run-escape (s .args .quoted) (now (s .args .value)) (l .loop .end) (omega arith) (sym (c .before .is-escaped .ensures) ∙ c .if1 .taken) ∙ l .loop .inv .1
+add-result : tie.Need-add-result
+add-result c =
+    let s = c .before .before .before .before .before in
+    omega (arith, s .pre .0, s .pre .1 (c .before .before .if1 .left) .room, c .wide .ensures .1)
 
-add-end : tie.Need-add-end Inv-loop μ-loop
-add-end c = omega arith
-
-loop-less : tie.Need-loop-less Inv-loop μ-loop
-loop-less c = omega arith
-
-loop-again : tie.Need-loop-again Inv-loop μ-loop
-loop-again c =
-    let l = c .before .before .before .before in
-    let s = l .before .before in
-    (omega arith, run-byte (s .args .quoted) (now (s .args .value)) (l .loop .end) (omega arith) (sym (c .before .is-escaped .ensures) ∙ c .if1 .left) ∙ l .loop .inv .1)
-
-returns-2 : tie.Need-returns-2 Inv-loop μ-loop
+returns-2 : tie.Need-returns-2
 returns-2 c =
-    let l = c .before in
-    let s = l .before .before in
-    run-end (s .args .quoted) (now (s .args .value)) (l .loop .end) (omega arith) ∙ l .loop .inv .1
+    let s = c .before .before .before .before .before in
+    length-told (now (s .args .value)) (s .args .i) (s .pre .0) (s .pre .1 (c .before .before .if1 .left)) (c .wide .ensures .0)
 
 pub run-end-spec : {M : Type 1} → statement M
 run-end-spec =
     tie.close
     (tie.spec
-    Inv-loop
-    μ-loop
-    loop-holds
-    shared-slice-read-is-escaped
-    is-escaped-requires
+    seen-end-requires
     returns
-    add-end
-    loop-less
-    loop-again
+    mul-wide
+    shared-slice-read-wide
+    wide-requires
+    add-result
     returns-2)

@@ -1,101 +1,89 @@
 -- `escapes::write_runs` meets its contract. The invariant: what is left to write makes the whole.
 -- Assumes nothing.
-use Prim.Native.Nat.{_-_, _≤_, _<_}
-use mathlib.Core.Path.{_≡_}
-use mathlib.Core.Bool.{true}
+use Prim.Native.Nat.{_-_, _<_}
+use mathlib.Core.Path.{_∙_}
 use native.Mathlib.Omega.{arith}
-use lib.ListN.{length, getD}
+use lib.ListN.{length}
 use denote.Ref.{now}
-use borrow.Author.Needs.{needs}
-use Rattle.escapes.specs.Escapes.{isEscaped}
-use Rattle.escapes.proofs.Runs.{in-quotes, Left, left-start, run-inside, left-run, stops, left-escape, left-end}
+use Rattle.escapes.proofs.Runs.{Left, left-start, left-last, left-run, stops, left-escape, left-end}
 use Rattle.escapes.proofs.write_runs.Statement.{statement}
 use Rattle.escapes.proofs.write_runs.Tie as tie
 
 abbrev Inv-loop : tie.InvT-loop
-Inv-loop out₀ at value quoted to₀ i₀ out to i = Left quoted value out₀ at out to i
+Inv-loop out₀ at value runs quoted to₀ i₀ out to i = Left quoted value out₀ at out to i
 
 abbrev μ-loop : tie.MeasureT-loop
-μ-loop out₀ at value quoted to₀ i₀ out to i = length value - i
+μ-loop out₀ at value runs quoted to₀ i₀ out to i = length value - i
 
 loop-holds : tie.Need-loop-holds Inv-loop μ-loop
 loop-holds c =
-    let s = c .before .before in
+    let s = c .before .before .before in
     left-start (s .args .quoted) (now (s .args .value)) (now (s .args .out)) (s .args .at)
 
 run-end-requires : tie.Need-run-end-requires Inv-loop μ-loop
-run-end-requires c κs = omega arith
-
--- What the run and its writing give.
-inside : (c : tie.After-run-end Inv-loop μ-loop) → (c .before .before .loop .i ≤ c .run-end .result) × (c .run-end .result ≤ length (now (c .before .before .before .before .before .args .value)))
-inside c =
-    let l = c .before .before in
-    let s = l .before .before .before in
-    run-inside (s .args .quoted) (now (s .args .value)) (now (s .args .out)) (s .args .at) (l .loop .inv) (c .run-end .result) (c .run-end .ensures)
-
-after-run : (c : tie.After-put-bytes Inv-loop μ-loop) → Left (c .before .before .before .before .before .before .before .before .args .quoted) (now (c .before .before .before .before .before .before .before .before .args .value)) (now (c .before .before .before .before .before .before .before .before .args .out)) (c .before .before .before .before .before .before .before .before .args .at) (c .put-bytes .last .0) (c .put-bytes .result) (c .before .before .before .run-end .result)
-after-run c =
-    let e = c .before .before .before in
-    let l = e .before .before in
-    let s = l .before .before .before in
-    left-run (s .args .quoted) (now (s .args .value)) (now (s .args .out)) (s .args .at) (l .loop .inv) (e .run-end .result) (e .run-end .ensures) (c .put-bytes .ensures)
-
--- Behind the run a byte stands that is escaped.
-short : (c : tie.Else1 Inv-loop μ-loop) → c .before .before .before .before .before .before .run-end .result < length (now (c .before .before .before .before .before .before .before .before .before .before .before .args .value))
-short c = omega (arith, inside (c .before .before .before .before .before .before) .1, c .if1 .left)
-
-escaped-there : (c : tie.Else1 Inv-loop μ-loop) → isEscaped (c .before .before .before .before .before .before .before .before .before .before .before .args .quoted) (getD (now (c .before .before .before .before .before .before .before .before .before .before .before .args .value)) (c .before .before .before .before .before .before .run-end .result) 0) ≡ true
-escaped-there c =
-    let e = c .before .before .before .before .before .before in
-    let l = e .before .before in
-    let s = l .before .before .before in
-    stops (s .args .quoted) (now (s .args .value)) (now (s .args .out)) (s .args .at) (l .loop .inv) (e .run-end .result) (e .run-end .ensures) (short c)
+run-end-requires c κs = (omega arith, c .before .before .before .before .before .pre)
 
 sub-put-bytes : tie.Need-sub-put-bytes Inv-loop μ-loop
-sub-put-bytes c = inside (c .before) .0
+sub-put-bytes c = omega arith
 
 part-put-bytes-start : tie.Need-part-put-bytes-start Inv-loop μ-loop
-part-put-bytes-start c = inside (c .before) .0
+part-put-bytes-start c = omega arith
 
 part-put-bytes-end : tie.Need-part-put-bytes-end Inv-loop μ-loop
-part-put-bytes-end c = inside (c .before) .1
+part-put-bytes-end c = omega arith
 
 put-bytes-requires : tie.Need-put-bytes-requires Inv-loop μ-loop
-put-bytes-requires c κs = search needs
+put-bytes-requires c κs = tt
 
 same-length : tie.Need-same-length Inv-loop μ-loop
-same-length c = after-run (c .before .before .before) .size
+same-length c =
+    let p = c .before .before in
+    p .put-bytes .ensures .size ∙ p .before .before .before .before .before .before .loop .inv .size
 
 returns : tie.Need-returns Inv-loop μ-loop
 returns c =
-    let w = c .before .before .before in
-    let s = w .before .before .before .before .before .before .before .before in
-    left-end (s .args .quoted) (now (s .args .value)) (now (s .args .out)) (s .args .at) (after-run w) (omega arith)
+    let p = c .before .before in
+    let e = p .before .before .before .before in
+    let l = e .before .before in
+    let s = l .before .before .before .before in
+    left-last (s .args .quoted) (now (s .args .value)) (now (s .args .out)) (s .args .at) (l .loop .inv) (e .run-end .result) (e .run-end .ensures) (p .before .before .before .if1 .taken) (p .put-bytes .ensures)
 
-shared-slice-read-write-escape : tie.Need-shared-slice-read-write-escape Inv-loop μ-loop
-shared-slice-read-write-escape c = short (c .before .before)
+sub-put-run : tie.Need-sub-put-run Inv-loop μ-loop
+sub-put-run c = c .before .before .run-end .ensures .0
 
-write-escape-requires : tie.Need-write-escape-requires Inv-loop μ-loop
-write-escape-requires c κs =
-    let e = c .before .before in
-    let w = e .before .before .before in
-    let s = w .before .before .before .before .before .before .before .before in
-    in-quotes (s .args .quoted) (getD (now (s .args .value)) (w .before .before .before .run-end .result) 0) (escaped-there e) .0
+part-put-run-start : tie.Need-part-put-run-start Inv-loop μ-loop
+part-put-run-start c = c .before .before .run-end .ensures .0
+
+part-put-run-end : tie.Need-part-put-run-end Inv-loop μ-loop
+part-put-run-end c = omega (arith, c .before .if1 .left)
+
+put-run-requires : tie.Need-put-run-requires Inv-loop μ-loop
+put-run-requires c κs = tt
+
+shared-slice-read-write-byte : tie.Need-shared-slice-read-write-byte Inv-loop μ-loop
+shared-slice-read-write-byte c = omega (arith, c .before .before .before .before .before .before .before .if1 .left)
+
+write-byte-requires : tie.Need-write-byte-requires Inv-loop μ-loop
+write-byte-requires c κs =
+    let e = c .before .before .before .before .before .before .before .before in
+    let l = e .before .before in
+    let s = l .before .before .before .before in
+    stops (s .args .quoted) (now (s .args .value)) (now (s .args .out)) (s .args .at) (l .loop .inv) (e .run-end .result) (e .run-end .ensures) (omega (arith, c .before .before .before .before .before .before .before .if1 .left))
 
 add-i : tie.Need-add-i Inv-loop μ-loop
-add-i c = omega (arith, short (c .before .before .before .before .before))
+add-i c = omega (arith, c .before .before .before .before .before .before .before .before .before .before .if1 .left)
 
 loop-less : tie.Need-loop-less Inv-loop μ-loop
-loop-less c =
-    let e = c .before .before .before .before .before in
-    omega (arith, short e, inside (e .before .before .before .before .before .before) .0)
+loop-less c = omega (arith, c .before .before .before .before .before .before .before .before .before .before .if1 .left, c .before .before .before .before .before .before .before .before .before .before .before .run-end .ensures .0)
 
 loop-again : tie.Need-loop-again Inv-loop μ-loop
 loop-again c =
-    let e = c .before .before .before .before .before in
-    let w = e .before .before .before in
-    let s = w .before .before .before .before .before .before .before .before in
-    left-escape (s .args .quoted) (now (s .args .value)) (now (s .args .out)) (s .args .at) (after-run w) (short e) (escaped-there e) (c .before .before .write-escape .ensures)
+    let e = c .before .before .before .before .before .before .before .before .before .before .before in
+    let l = e .before .before in
+    let s = l .before .before .before .before in
+    let short : e .run-end .result < length (now (s .args .value)) = omega (arith, c .before .before .before .before .before .before .before .before .before .before .if1 .left) in
+    let ran = left-run (s .args .quoted) (now (s .args .value)) (now (s .args .out)) (s .args .at) (l .loop .inv) (e .run-end .result) (e .run-end .ensures) short (c .before .before .before .before .before .before .before .put-run .ensures) in
+    left-escape (s .args .quoted) (now (s .args .value)) (now (s .args .out)) (s .args .at) ran short (c .before .before .write-byte .ensures)
 
 same-length-2 : tie.Need-same-length-2 Inv-loop μ-loop
 same-length-2 c = c .before .loop .inv .size
@@ -103,7 +91,7 @@ same-length-2 c = c .before .loop .inv .size
 returns-2 : tie.Need-returns-2 Inv-loop μ-loop
 returns-2 c =
     let l = c .before in
-    let s = l .before .before .before in
+    let s = l .before .before .before .before in
     left-end (s .args .quoted) (now (s .args .value)) (now (s .args .out)) (s .args .at) (l .loop .inv) (omega arith)
 
 pub write-runs-spec : {M : Type 1} → statement M
@@ -120,8 +108,12 @@ write-runs-spec =
     put-bytes-requires
     same-length
     returns
-    shared-slice-read-write-escape
-    write-escape-requires
+    sub-put-run
+    part-put-run-start
+    part-put-run-end
+    put-run-requires
+    shared-slice-read-write-byte
+    write-byte-requires
     add-i
     loop-less
     loop-again

@@ -1,10 +1,14 @@
 -- `escapes::write_value` meets its contract.
 -- Assumes nothing.
+use mathlib.Core.Path.{sym, _∙_}
 use denote.Ref.{now}
 use borrow.Author.Needs.{needs}
-use Rattle.escapes.proofs.Runs.{known-put}
+use Rattle.escapes.proofs.Runs.{plain-put}
 use Rattle.escapes.proofs.write_value.Statement.{statement}
 use Rattle.escapes.proofs.write_value.Tie as tie
+
+is-plain-requires : tie.Need-is-plain-requires
+is-plain-requires c κs = search needs
 
 put-bytes-requires : tie.Need-put-bytes-requires
 put-bytes-requires c κs = search needs
@@ -14,11 +18,12 @@ same-length c = search needs
 
 returns : tie.Need-returns
 returns c =
-    let s = c .before .before .before .before .before .before .before in
-    known-put (s .args .quoted) (now (s .args .value)) (now (s .args .out)) (s .args .at) (s .pre (c .before .before .before .before .if1 .taken)) (c .before .before .put-bytes .ensures)
+    let t = c .before .before .before .before in
+    let s = t .before .before .before .before .before .before in
+    plain-put (s .args .quoted) (now (s .args .value)) (now (s .args .out)) (s .args .at) (sym (t .before .is-plain .ensures) ∙ t .if2 .taken) (c .before .before .put-bytes .ensures)
 
-write-escaped-requires : tie.Need-write-escaped-requires
-write-escaped-requires c κs = search needs
+write-runs-requires : tie.Need-write-runs-requires
+write-runs-requires c κs = search needs
 
 same-length-2 : tie.Need-same-length-2
 same-length-2 c = search needs
@@ -30,9 +35,10 @@ pub write-value-spec : {M : Type 1} → statement M
 write-value-spec =
     tie.close
     (tie.spec
+    is-plain-requires
     put-bytes-requires
     same-length
     returns
-    write-escaped-requires
+    write-runs-requires
     same-length-2
     returns-2)

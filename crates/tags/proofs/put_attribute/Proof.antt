@@ -1,9 +1,8 @@
 -- `tags::put_attribute` meets its contract.
 -- Assumes nothing.
-use mathlib.Core.Bool.{true}
 use Rattle.rules.specs.Table.{nodeAt}
 use Rattle.markup.specs.Trees.{writtenAttribute}
-use Rattle.tags.proofs.Pieces.{attribute-put, value-read, value-plain}
+use Rattle.tags.proofs.Pieces.{attribute-put}
 use borrow.Author.Needs.{needs}
 use Rattle.tags.proofs.put_attribute.Statement.{statement}
 use Rattle.tags.proofs.put_attribute.Tie as tie
@@ -23,16 +22,8 @@ slice-aggregate-put-bytes-2 c = search needs
 put-bytes-requires-2 : tie.Need-put-bytes-requires-2
 put-bytes-requires-2 c κs = search needs
 
-field-requires : tie.Need-field-requires
-field-requires c κs = search needs
-
-is-plain-requires : tie.Need-is-plain-requires
-is-plain-requires c κs = search needs
-
-write-value-requires : tie.Need-write-value-requires
-write-value-requires c κs =
-    let s = c .before .before .before .before .before .before .before .before .before .before .before .before .before .before .before .before .before .before .before .before .before in
-    value-plain (s .args .table .now) (s .args .pool .now) (s .args .marks .now) (s .args .row .0) (s .pre .1) (c .before .before .field .ensures) (c .is-plain .ensures)
+put-quoted-requires : tie.Need-put-quoted-requires
+put-quoted-requires c κs = search needs
 
 slice-aggregate-put-bytes-3 : tie.Need-slice-aggregate-put-bytes-3
 slice-aggregate-put-bytes-3 c = search needs
@@ -45,9 +36,9 @@ same-length c = search needs
 
 returns : tie.Need-returns
 returns c =
-    let s = c .before .before .before .before .before .before .before .before .before .before .before .before .before .before .before .before .before .before .before .before .before .before .before .before .before .before .before .before .before in
+    let s = c .before .before .before .before .before .before .before .before .before .before .before .before .before .before .before .before .before .before .before .before .before .before .before .before .before .before .before .before in
     let n = nodeAt (s .args .table .now) (s .args .pool .now) (s .args .row .0) in
-    attribute-put (writtenAttribute n) (c .before .before .before .before .before .before .before .before .before .before .before .before .before .before .before .before .before .before .before .before .before .before .put-bytes .ensures) (c .before .before .before .before .before .before .before .before .before .before .before .before .before .before .before .before .before .before .put-attribute-name .ensures) (c .before .before .before .before .before .before .before .before .before .before .before .before .before .put-bytes2 .ensures) (value-read true n (c .before .before .before .before .before .before .before .before .before .before .field .ensures) (c .before .before .before .before .before .before .before .write-value .ensures)) (c .before .before .put-bytes3 .ensures)
+    attribute-put (writtenAttribute n) (c .before .before .before .before .before .before .before .before .before .before .before .before .before .before .before .before .before .before .before .before .put-bytes .ensures) (c .before .before .before .before .before .before .before .before .before .before .before .before .before .before .before .before .put-attribute-name .ensures) (c .before .before .before .before .before .before .before .before .before .before .before .put-bytes2 .ensures) (c .before .before .before .before .before .before .before .put-quoted .ensures) (c .before .before .put-bytes3 .ensures)
 
 pub put-attribute-spec : {M : Type 1} → statement M
 put-attribute-spec =
@@ -58,9 +49,7 @@ put-attribute-spec =
     put-attribute-name-requires
     slice-aggregate-put-bytes-2
     put-bytes-requires-2
-    field-requires
-    is-plain-requires
-    write-value-requires
+    put-quoted-requires
     slice-aggregate-put-bytes-3
     put-bytes-requires-3
     same-length

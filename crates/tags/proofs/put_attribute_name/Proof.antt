@@ -1,6 +1,7 @@
 -- `tags::put_attribute_name` meets its contract.
 -- Assumes nothing.
 use mathlib.Core.Path.{sym, _∙_}
+use native.Mathlib.Omega.{arith}
 use Rattle.rules.specs.Table.{nodeAt}
 use Rattle.tags.proofs.Pieces.{prefix-read, declaration-put, own-name-put}
 use borrow.Author.Needs.{needs}
@@ -10,8 +11,10 @@ use Rattle.tags.proofs.put_attribute_name.Tie as tie
 kind-requires : tie.Need-kind-requires
 kind-requires c κs = search needs
 
-field-requires : tie.Need-field-requires
-field-requires c κs = search needs
+field-within-requires : tie.Need-field-within-requires
+field-within-requires c κs =
+    let s = c .before .before .before .before .before in
+    ((s .pre .0, omega arith), s .pre .1 .local (s .args .row .0) (s .pre .0))
 
 put-declaration-name-requires : tie.Need-put-declaration-name-requires
 put-declaration-name-requires c κs = search needs
@@ -23,7 +26,7 @@ returns : tie.Need-returns
 returns c =
     let s = c .before .before .before .before .before .before .before .before .before .before in
     let n = nodeAt (s .args .table .now) (s .args .pool .now) (s .args .row .0) in
-    declaration-put n (sym (c .before .before .before .before .before .before .kind .ensures) ∙ c .before .before .before .before .before .if1 .taken) (prefix-read n (c .before .before .before .before .field .ensures) (c .before .before .put-declaration-name .ensures))
+    declaration-put n (sym (c .before .before .before .before .before .before .kind .ensures) ∙ c .before .before .before .before .before .if1 .taken) (prefix-read n (c .before .before .before .before .field-within .ensures) (c .before .before .put-declaration-name .ensures))
 
 put-row-name-requires : tie.Need-put-row-name-requires
 put-row-name-requires c κs = search needs
@@ -42,7 +45,7 @@ put-attribute-name-spec =
     tie.close
     (tie.spec
     kind-requires
-    field-requires
+    field-within-requires
     put-declaration-name-requires
     same-length
     returns

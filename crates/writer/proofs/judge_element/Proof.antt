@@ -14,7 +14,7 @@ has-row-requires : tie.Need-has-row-requires
 has-row-requires c κs = search needs
 
 judge-subtree-requires : tie.Need-judge-subtree-requires
-judge-subtree-requires c κs = (c .before .before .before .before .before .before .before .before .before .before .before .pre .0, ltb-true _ _ (sym (c .before .before .before .before .has-row .ensures) ∙ c .before .before .before .if1 .taken))
+judge-subtree-requires c κs = (c .before .before .before .before .before .before .before .before .before .before .pre .0, ltb-true _ _ (sym (c .before .before .before .has-row .ensures) ∙ c .before .before .if1 .taken))
 
 enum-told : tie.Need-enum-told
 enum-told c = search needs
@@ -28,31 +28,29 @@ same-length c = search needs
 same-length-2 : tie.Need-same-length-2
 same-length-2 c = search needs
 
-same-length-3 : tie.Need-same-length-3
-same-length-3 c = search needs
-
 returns : tie.Need-returns
 returns c =
-    let s = c .before .before .before .before .before .before .before .before .before .before .before .before .before .before .before .before .before .before .before .before in
-    let found = c .before .before .before .before .before .before .before .before .before .before .before .before .before .before .element-to-write in
-    let less = ltb-true _ _ (sym (c .before .before .before .before .before .before .before .before .before .before .before .before .before .has-row .ensures) ∙ c .before .before .before .before .before .before .before .before .before .before .before .before .if1 .taken) in
-    judged-element (s .args .table .now) (s .args .pool .now) (s .args .row .0) _ (judged-written (s .args .table .now) (s .args .pool .now) (s .args .row .0) (is-accepted (s .pre .0)) (s .pre .1 .0) (s .pre .1 .1) (found .result .0) (found .ensures (s .args .pool .now)) less (c .before .before .before .before .before .before .before .before .judge-subtree .ensures (element-kind (s .args .table .now) (s .args .pool .now) (s .args .row .0) (is-accepted (s .pre .0)) (s .pre .1 .0) (s .pre .1 .1) (found .result .0) (found .ensures (s .args .pool .now)) less) (s .args .row .0)) (c .enum-told .given .1))
+    let s = c .before .before .before .before .before .before .before .before .before .before .before .before .before .before .before .before .before in
+    let found = c .before .before .before .before .before .before .before .before .before .before .before .element-to-write in
+    let less = ltb-true _ _ (sym (c .before .before .before .before .before .before .before .before .before .before .has-row .ensures) ∙ c .before .before .before .before .before .before .before .before .before .if1 .taken) in
+    let accepted = is-accepted (s .pre .0) in
+    let kind = element-kind (s .args .table .now) (s .args .pool .now) (s .args .row .0) accepted (s .pre .1 .0) (s .pre .1 .1) (found .result .0) (found .ensures (s .args .pool .now)) less in
+    judged-element (s .args .table .now) (s .args .pool .now) (s .args .row .0) _ (judged-written (s .args .table .now) (s .args .pool .now) (s .args .row .0) accepted (s .pre .1 .0) (s .pre .1 .1) (found .result .0) (found .ensures (s .args .pool .now)) less (c .before .before .before .before .before .before .judge-subtree .ensures kind (s .args .row .0)) (c .enum-told .given .1))
+
+same-length-3 : tie.Need-same-length-3
+same-length-3 c = search needs
 
 same-length-4 : tie.Need-same-length-4
 same-length-4 c = search needs
 
-same-length-5 : tie.Need-same-length-5
-same-length-5 c = search needs
-
-same-length-6 : tie.Need-same-length-6
-same-length-6 c = search needs
-
 returns-2 : tie.Need-returns-2
 returns-2 c =
-    let s = c .before .before .before .before .before .before .before .before .before .before .before .before .before .before .before .before .before .before .before .before .before in
-    let found = c .before .before .before .before .before .before .before .before .before .before .before .before .before .before .before .element-to-write in
-    let less = ltb-true _ _ (sym (c .before .before .before .before .before .before .before .before .before .before .before .before .before .before .has-row .ensures) ∙ c .before .before .before .before .before .before .before .before .before .before .before .before .before .if1 .taken) in
-    judged-subtree (s .args .table .now) (s .args .pool .now) (s .args .row .0) (is-accepted (s .pre .0)) (s .pre .1 .0) (s .pre .1 .1) (found .result .0) (found .ensures (s .args .pool .now)) less (c .before .before .before .before .before .before .before .before .before .judge-subtree .ensures (element-kind (s .args .table .now) (s .args .pool .now) (s .args .row .0) (is-accepted (s .pre .0)) (s .pre .1 .0) (s .pre .1 .1) (found .result .0) (found .ensures (s .args .pool .now)) less) (s .args .row .0)) _ (c .before .why .given .1)
+    let s = c .before .before .before .before .before .before .before .before .before .before .before .before .before .before .before .before .before .before in
+    let found = c .before .before .before .before .before .before .before .before .before .before .before .before .element-to-write in
+    let less = ltb-true _ _ (sym (c .before .before .before .before .before .before .before .before .before .before .before .has-row .ensures) ∙ c .before .before .before .before .before .before .before .before .before .before .if1 .taken) in
+    let accepted = is-accepted (s .pre .0) in
+    let kind = element-kind (s .args .table .now) (s .args .pool .now) (s .args .row .0) accepted (s .pre .1 .0) (s .pre .1 .1) (found .result .0) (found .ensures (s .args .pool .now)) less in
+    judged-subtree (s .args .table .now) (s .args .pool .now) (s .args .row .0) accepted (s .pre .1 .0) (s .pre .1 .1) (found .result .0) (found .ensures (s .args .pool .now)) less (c .before .before .before .before .before .before .before .judge-subtree .ensures kind (s .args .row .0)) _ (c .before .why .given .1)
 
 returns-3 : tie.Need-returns-3
 returns-3 c =
@@ -71,10 +69,8 @@ judge-element-spec =
     enum-known-why
     same-length
     same-length-2
-    same-length-3
     returns
+    same-length-3
     same-length-4
-    same-length-5
-    same-length-6
     returns-2
     returns-3)

@@ -2,7 +2,7 @@
 -- Assumes nothing.
 use native.Mathlib.Omega.{arith}
 use Rattle.writer.proofs.Outcome.{lookup-refused}
-use Rattle.writer.proofs.Judging.{path-room, prepared, judged-refused, judged-level1, level2}
+use Rattle.writer.proofs.Judging.{path-room, prepared, judged-refused}
 use borrow.Author.Needs.{needs}
 use Rattle.writer.proofs.judge_lent.Statement.{statement}
 use Rattle.writer.proofs.judge_lent.Tie as tie
@@ -16,23 +16,22 @@ begin-requires c κs = c .before .before .before .before .before .before .before
 enum-known-xml : tie.Need-enum-known-xml
 enum-known-xml c = search needs
 
-level1-requires : tie.Need-level1-requires
-level1-requires c κs = c .before .before .before .before .before .begin .ensures .0 _ (c .before .xml .given .1) .unlinked .few
-
-enum-told : tie.Need-enum-told
-enum-told c = search needs
-
 set-numbered-requires : tie.Need-set-numbered-requires
-set-numbered-requires c κs = omega (arith, path-room (c .before .before .before .before .before .before .before .before .before .before .before .before .before .before .before .before .before .pre) (c .before .before .before .before .before .before .before .before .before .begin .ensures .0 _ (c .before .before .before .before .before .xml .given .1)))
+set-numbered-requires c κs =
+    let ground = c .before .before .before .before .before .before .begin .ensures .0 _ (c .before .before .xml .given .1) in
+    omega (arith, path-room (c .before .before .before .before .before .before .before .before .before .before .before .before .before .before .pre) ground)
 
-judge-element-requires : tie.Need-judge-element-requires
-judge-element-requires c κs =
-    let s = c .before .before .before .before .before .before .before .before .before .before .before .before .before .before .before .before .before .before .before .before .before .before .before in
-    let ground = c .before .before .before .before .before .before .before .before .before .before .before .before .before .before .before .begin .ensures .0 _ (c .before .before .before .before .before .before .before .before .before .before .before .xml .given .1) in
-    (prepared (s .pre) ground (c .before .before .before .before .before .set-numbered .ensures), (ground .unrefused, level2 (s .args .table .now) (s .args .pool .now) (s .args .row .0) (c .before .before .before .before .before .before .before .before .before .level1 .ensures (s .args .pool .now)) (c .before .before .before .before .before .before .before .enum-told .given .1), ground .within))
+link-all-requires : tie.Need-link-all-requires
+link-all-requires c κs =
+    let ground = c .before .before .before .before .before .before .before .before .before .before .begin .ensures .0 _ (c .before .before .before .before .before .before .xml .given .1) in
+    ((ground .unlinked .few, ground .unlinked .noted), ground .unlinked .none)
 
-enum-known-why : tie.Need-enum-known-why
-enum-known-why c = search needs
+judge-row-requires : tie.Need-judge-row-requires
+judge-row-requires c κs =
+    let s = c .before .before .before .before .before .before .before .before .before .before .before .before .before .before .before .before .before .before .before .before .before .before .before .before in
+    let ground = c .before .before .before .before .before .before .before .before .before .before .before .before .before .before .before .before .begin .ensures .0 _ (c .before .before .before .before .before .before .before .before .before .before .before .before .xml .given .1) in
+    let linked = c .before .before .before .before .before .link-all in
+    (prepared (s .pre) ground (c .before .before .before .before .before .before .before .before .before .set-numbered .ensures) (linked .kept .1 .0) (linked .ensures .0) (linked .ensures .1), (ground .unrefused, ground .within))
 
 enum-known-earlier : tie.Need-enum-known-earlier
 enum-known-earlier c = search needs
@@ -47,22 +46,13 @@ same-length-3 : tie.Need-same-length-3
 same-length-3 c = search needs
 
 returns : tie.Need-returns
-returns c = c .before .before .before .before .before .before .judge-element .ensures
+returns c = c .before .before .before .before .judge-row .ensures
 
 same-length-4 : tie.Need-same-length-4
 same-length-4 c = search needs
 
 returns-2 : tie.Need-returns-2
 returns-2 c =
-    let s = c .before .before .before .before .before .before .before .before .before .before .before .before .before .before .before .before .before in
-    let ground = c .before .before .before .before .before .before .before .before .before .begin .ensures .0 _ (c .before .before .before .before .before .xml .given .1) in
-    judged-level1 (s .args .table .now) (s .args .pool .now) (s .args .row .0) (ground .unrefused) (c .before .before .before .level1 .ensures (s .args .pool .now)) _ (c .before .why .given .1)
-
-same-length-5 : tie.Need-same-length-5
-same-length-5 c = search needs
-
-returns-3 : tie.Need-returns-3
-returns-3 c =
     let s = c .before .before .before .before .before .before .before .before .before .before .before .before .before in
     judged-refused (s .args .table .now) (s .args .pool .now) (s .args .row .0) _
     (λ size. lookup-refused (s .args .table .now) (s .args .pool .now) (s .args .row .0) size _ (c .before .before .before .before .before .begin .ensures .1 _ (c .before .earlier .given .1)))
@@ -74,17 +64,13 @@ judge-lent-spec =
     slice-aggregate-begin
     begin-requires
     enum-known-xml
-    level1-requires
-    enum-told
     set-numbered-requires
-    judge-element-requires
-    enum-known-why
+    link-all-requires
+    judge-row-requires
     enum-known-earlier
     same-length
     same-length-2
     same-length-3
     returns
     same-length-4
-    returns-2
-    same-length-5
-    returns-3)
+    returns-2)

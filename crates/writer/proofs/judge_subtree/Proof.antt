@@ -1,7 +1,7 @@
 -- `writer::judge_subtree` meets its contract.
 -- Assumes nothing.
 use Rattle.rules.specs.Table.{nodes}
-use Rattle.writer.proofs.Judging.{is-accepted, few-prepared, flags-room, walkable, standing-nowhere, subtree-markup, subtree-characters, subtree-names}
+use Rattle.writer.proofs.Judging.{is-accepted, few-prepared, flags-room, subtree-markup, subtree-characters, subtree-names}
 use borrow.Author.Needs.{needs}
 use Rattle.writer.proofs.judge_subtree.Statement.{statement}
 use Rattle.writer.proofs.judge_subtree.Tie as tie
@@ -27,7 +27,8 @@ enum-told-2 c = search needs
 returns : tie.Need-returns
 returns c = λ kind start.
     let s = c .before .before .before .before .before .before .before .before .before .before .before .before in
-    subtree-markup (nodes (s .args .table .now) (s .args .pool .now)) start (s .args .element .0) (c .before .before .check-markup .ensures (s .args .element .0) (s .args .pool .now) (c .before .before .before .before .before .flag-all .ensures)) _ (c .enum-told2 .given .1)
+    let flagged = c .before .before .before .before .before .flag-all .ensures in
+    subtree-markup (nodes (s .args .table .now) (s .args .pool .now)) start (s .args .element .0) (c .before .before .check-markup .ensures (s .args .element .0) (s .args .pool .now) flagged) _ (c .enum-told2 .given .1)
 
 slice-aggregate-check-characters : tie.Need-slice-aggregate-check-characters
 slice-aggregate-check-characters c = search needs
@@ -44,20 +45,17 @@ enum-told-4 c = search needs
 returns-2 : tie.Need-returns-2
 returns-2 c = λ kind start.
     let s = c .before .before .before .before .before .before .before .before .before .before .before .before .before .before .before .before in
-    subtree-characters (nodes (s .args .table .now) (s .args .pool .now)) start (s .args .element .0) (c .before .before .before .before .before .before .check-markup .ensures (s .args .element .0) (s .args .pool .now) (c .before .before .before .before .before .before .before .before .before .flag-all .ensures)) (c .before .before .before .before .enum-told .given .1) (c .before .before .check-characters .ensures (s .args .element .0) (c .before .before .before .before .before .before .before .before .before .flag-all .ensures)) _ (c .enum-told4 .given .1)
-
-link-all-requires : tie.Need-link-all-requires
-link-all-requires c κs = let p = c .before .before .before .before .before .before .before .before .before .before .before .before .before .before .before .before .before .pre .0 in ((few-prepared p, p .noted), p .unlinked)
+    let flagged = c .before .before .before .before .before .before .before .before .before .flag-all .ensures in
+    subtree-characters (nodes (s .args .table .now) (s .args .pool .now)) start (s .args .element .0) (c .before .before .before .before .before .before .check-markup .ensures (s .args .element .0) (s .args .pool .now) flagged) (c .before .before .before .before .enum-told .given .1) (c .before .before .check-characters .ensures (s .args .element .0) flagged) _ (c .enum-told4 .given .1)
 
 slice-aggregate-check-names : tie.Need-slice-aggregate-check-names
 slice-aggregate-check-names c = search needs
 
 check-names-requires : tie.Need-check-names-requires
 check-names-requires c κs =
-    let s = c .before .before .before .before .before .before .before .before .before .before .before .before .before .before .before .before .before .before .before .before .before .before .before .before in
+    let s = c .before .before .before .before .before .before .before .before .before .before .before .before .before .before .before .before .before .before .before in
     let p = s .pre .0 in
-    let linked = c .before .before .before .before .before .before .link-all in
-    ((_, walkable p (linked .kept .1 .0) (linked .ensures .0) (linked .ensures .1)), (standing-nowhere p (linked .kept .1 .0) (linked .ensures .0) (linked .ensures .1), (s .pre .1, rw (c .before .before .before .before .before .before .before .before .before .before .before .before .before .before .before .before .before .flag-all .kept .1 .0) (flags-room _ (few-prepared p)))))
+    ((_, p .walkable), (p .standing, (s .pre .1, rw (c .before .before .before .before .before .before .before .before .before .before .before .before .flag-all .kept .1 .0) (flags-room _ (few-prepared p)))))
 
 same-length : tie.Need-same-length
 same-length c = search needs
@@ -65,16 +63,12 @@ same-length c = search needs
 same-length-2 : tie.Need-same-length-2
 same-length-2 c = search needs
 
-same-length-3 : tie.Need-same-length-3
-same-length-3 c = search needs
-
 returns-3 : tie.Need-returns-3
 returns-3 c = λ kind start.
-    let s = c .before .before .before .before .before .before .before .before .before .before .before .before .before .before .before .before .before .before .before .before .before .before .before .before .before .before .before .before .before in
-    let linked = c .before .before .before .before .before .before .before .before .before .before .before .link-all in
-    let flagged = c .before .before .before .before .before .before .before .before .before .before .before .before .before .before .before .before .before .before .before .before .before .before .flag-all .ensures in
-    subtree-names (nodes (s .args .table .now) (s .args .pool .now)) start (s .args .element .0) (c .before .before .before .before .before .before .before .before .before .before .before .before .before .before .before .before .before .before .before .check-markup .ensures (s .args .element .0) (s .args .pool .now) flagged) (c .before .before .before .before .before .before .before .before .before .before .before .before .before .before .before .before .before .enum-told .given .1) (c .before .before .before .before .before .before .before .before .before .before .before .before .before .before .before .check-characters .ensures (s .args .element .0) flagged) (c .before .before .before .before .before .before .before .before .before .before .before .before .before .enum-told3 .given .1)
-    (c .before .before .before .before .check-names .ensures (s .args .pool .now) (walkable (s .pre .0) (linked .kept .1 .0) (linked .ensures .0) (linked .ensures .1)) flagged kind)
+    let s = c .before .before .before .before .before .before .before .before .before .before .before .before .before .before .before .before .before .before .before .before .before .before .before .before in
+    let flagged = c .before .before .before .before .before .before .before .before .before .before .before .before .before .before .before .before .before .flag-all .ensures in
+    subtree-names (nodes (s .args .table .now) (s .args .pool .now)) start (s .args .element .0) (c .before .before .before .before .before .before .before .before .before .before .before .before .before .before .check-markup .ensures (s .args .element .0) (s .args .pool .now) flagged) (c .before .before .before .before .before .before .before .before .before .before .before .before .enum-told .given .1) (c .before .before .before .before .before .before .before .before .before .before .check-characters .ensures (s .args .element .0) flagged) (c .before .before .before .before .before .before .before .before .enum-told3 .given .1)
+    (c .before .before .before .before .check-names .ensures (s .args .pool .now) (s .pre .0 .walkable) flagged kind)
 
 pub judge-subtree-spec : {M : Type 1} → statement M
 judge-subtree-spec =
@@ -92,10 +86,8 @@ judge-subtree-spec =
     enum-told-3
     enum-told-4
     returns-2
-    link-all-requires
     slice-aggregate-check-names
     check-names-requires
     same-length
     same-length-2
-    same-length-3
     returns-3)

@@ -1,9 +1,7 @@
 -- `writer::write_linked` meets its contract.
 -- Assumes nothing.
-use native.Mathlib.Omega.{arith}
 use Rattle.children.specs.Children.{firstWord}
-use Rattle.writer.specs.Elements.{elementText}
-use Rattle.writer.proofs.Elements.{no-links, few, marked, text-fits, text-past}
+use Rattle.writer.proofs.Elements.{no-links, few, few-bytes, marked}
 use borrow.Author.Needs.{needs}
 use Rattle.writer.proofs.write_linked.Statement.{statement}
 use Rattle.writer.proofs.write_linked.Tie as tie
@@ -18,21 +16,20 @@ mark-requires : tie.Need-mark-requires
 mark-requires c κs = search needs
 
 set-note-requires : tie.Need-set-note-requires
-set-note-requires c κs =
-    let s = c .before .before .before .before .before .before .before .before .before .before in
-    omega (arith, s .pre .1 .1 .room, s .pre .1 .0, c .before .before .before .before .link-all .kept .1 .0)
+set-note-requires c κs = search needs
 
-put-element-requires : tie.Need-put-element-requires
-put-element-requires c κs =
-    let s = c .before .before .before .before .before .before .before .before .before .before .before .before .before .before .before in
-    let all = c .before .before .before .before .before .before .before .before .before .link-all in
-    let set = c .before .before .before .before .set-note in
-    let told = c .before .before .before .before .before .mark in
-    let both = marked (s .args .table .now) (s .args .pool .now) (s .pre .0) (s .args .links .now) (all .last .1 .0) (set .last .0) (told .result) (s .pre .1 .1) (all .kept .1 .0) (omega (arith, s .pre .1 .0)) (all .ensures) (set .ensures) (told .ensures) in
-    (both .0, (s .pre .1 .0, both .1))
+is-measured-requires : tie.Need-is-measured-requires
+is-measured-requires c κs =
+    let s = c .before .before .before .before .before .before .before .before .before .before .before .before .before in
+    few (s .args .table .now) (s .args .pool .now) (s .pre .0)
 
-refuse-requires : tie.Need-refuse-requires
-refuse-requires c κs = search needs
+write-measured-requires : tie.Need-write-measured-requires
+write-measured-requires c κs =
+    let s = c .before .before .before .before .before .before .before .before .before .before .before .before .before .before .before .before .before in
+    let all = c .before .before .before .before .before .before .before .before .before .before .before .link-all in
+    let set = c .before .before .before .before .before .before .set-note in
+    let told = c .before .before .before .before .before .before .before .before .mark in
+    (few-bytes (s .args .table .now) (s .args .pool .now) (s .pre .0), marked (s .args .table .now) (s .args .pool .now) (s .pre .0) (s .args .links .now) (all .last .1 .0) (set .last .0) (told .result) (s .args .row .0) (s .pre .1 .1) (all .kept .1 .0) (s .pre .1 .0) (all .ensures) (set .ensures) (told .ensures))
 
 same-length : tie.Need-same-length
 same-length c = search needs
@@ -41,14 +38,18 @@ same-length-2 : tie.Need-same-length-2
 same-length-2 c = search needs
 
 returns : tie.Need-returns
-unfolding elementText
-returns c =
-    let s = c .before .before .before .before .before .before .before .before .before .before .before .before .before .before .before .before .before .before .before .before .before .before .before in
-    let put = c .before .before .before .before .before .before .before .put-element in
-    text-past (s .args .out .now) (elementText (s .args .table .now) (s .args .pool .now) (s .args .row .0)) (put .result) (put .last .1 .1 .1 .0) (put .ensures) (omega (arith, c .before .before .before .before .if1 .taken)) (c .before .before .refuse .ensures)
+returns c = search needs
 
-clear-bytes-requires : tie.Need-clear-bytes-requires
-clear-bytes-requires c κs = omega arith
+slice-aggregate-write-marked : tie.Need-slice-aggregate-write-marked
+slice-aggregate-write-marked c = search needs
+
+write-marked-requires : tie.Need-write-marked-requires
+write-marked-requires c κs =
+    let s = c .before .before .before .before .before .before .before .before .before .before .before .before .before .before .before .before .before .before in
+    let all = c .before .before .before .before .before .before .before .before .before .before .before .before .link-all in
+    let set = c .before .before .before .before .before .before .before .set-note in
+    let told = c .before .before .before .before .before .before .before .before .before .mark in
+    marked (s .args .table .now) (s .args .pool .now) (s .pre .0) (s .args .links .now) (all .last .1 .0) (set .last .0) (told .result) (s .args .row .0) (s .pre .1 .1) (all .kept .1 .0) (s .pre .1 .0) (all .ensures) (set .ensures) (told .ensures)
 
 same-length-3 : tie.Need-same-length-3
 same-length-3 c = search needs
@@ -57,11 +58,7 @@ same-length-4 : tie.Need-same-length-4
 same-length-4 c = search needs
 
 returns-2 : tie.Need-returns-2
-unfolding elementText
-returns-2 c =
-    let s = c .before .before .before .before .before .before .before .before .before .before .before .before .before .before .before .before .before .before .before .before .before .before .before in
-    let put = c .before .before .before .before .before .before .before .put-element in
-    text-fits (s .args .out .now) (elementText (s .args .table .now) (s .args .pool .now) (s .args .row .0)) (put .result) (put .last .1 .1 .1 .0) (put .ensures) (omega arith) (c .before .before .clear-bytes .ensures)
+returns-2 c = search needs
 
 pub write-linked-spec : {M : Type 1} → statement M
 write-linked-spec =
@@ -70,12 +67,13 @@ write-linked-spec =
     link-all-requires
     mark-requires
     set-note-requires
-    put-element-requires
-    refuse-requires
+    is-measured-requires
+    write-measured-requires
     same-length
     same-length-2
     returns
-    clear-bytes-requires
+    slice-aggregate-write-marked
+    write-marked-requires
     same-length-3
     same-length-4
     returns-2)
