@@ -1,7 +1,8 @@
 /* Runs an operation on a bundle from a file, so many times, and prints what it answers: the number and row of the refusal,
    what a lookup finds and how long it is, how many rows and bytes an output takes. The operation `copy` is what writing XML
-   text is held against: the check, and a copy of the text that is there already. Run 0 times, it is run once on a stack
-   of its own, and the bytes of stack that it took are printed.
+   text is held against: the check, and a copy, byte by byte, of the text that is there already; `memcpy` makes the copy by
+   the C library. Run 0 times, an operation is run once on a stack of its own, and the bytes of stack that it took are
+   printed.
    Usage: driver OPERATION FILE TIMES [ROW QUERY] */
 #include <noemathu.h>
 #include <pthread.h>
@@ -72,20 +73,35 @@ static void write_xml(void)
     answer[0] = text_length = used.bytes;
 }
 
-static void copy(void)
+static void checked_copy(void *(*copier)(void *, const void *, size_t))
 {
     refusal = noemathu_check(bundle, length);
-    memcpy(copied, text, text_length);
+    copier(copied, text, text_length);
     answer[0] = text_length;
     answer[1] = text_length ? copied[text_length - 1] : 0;
 }
+
+/* One byte at a time, as whoever must look at each one does: the compiler may not take several at once. */
+__attribute__((optimize("no-tree-vectorize", "no-tree-loop-distribute-patterns", "no-unroll-loops")))
+static void *copy_bytes(void *to, const void *from, size_t n)
+{
+    uint8_t *out = to;
+    const uint8_t *in = from;
+    for (size_t i = 0; i < n; i++)
+        out[i] = in[i];
+    return to;
+}
+
+static void copy(void) { checked_copy(copy_bytes); }
+static void copy_at_once(void) { checked_copy(memcpy); }
 
 static const struct {
     const char *name;
     void (*run)(void);
 } operations[] = {{"check", check}, {"uri", uri}, {"prefix", prefix}, {"default", default_uri},
                   {"in_scope_uri", in_scope_uri}, {"in_scope_prefix", in_scope_prefix}, {"normalize", normalize},
-                  {"read", read_bundle}, {"write", write_bundle}, {"write_xml", write_xml}, {"copy", copy}};
+                  {"read", read_bundle}, {"write", write_bundle}, {"write_xml", write_xml}, {"copy", copy},
+                  {"memcpy", copy_at_once}};
 
 static void *run_once(void *operation)
 {
@@ -130,14 +146,14 @@ int main(int argc, char **argv)
     query_length = strlen((const char *)query);
     if (operation == write_bundle)
         read_bundle();
-    if (operation == write_xml || operation == copy) {
+    if (operation == write_xml || operation == copy || operation == copy_at_once) {
         text_room = noemathu_xml_room(bundle);
         text = malloc(text_room);
         copied = malloc(text_room);
         if (!text || !copied)
             return 2;
     }
-    if (operation == copy)
+    if (operation == copy || operation == copy_at_once)
         write_xml();
     if (atol(argv[3]) == 0) {
         printf("%zu\n", stack_of(operation) - stack_of(nothing));

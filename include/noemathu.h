@@ -165,8 +165,8 @@ extern "C" {
 #define NOEMATHU_XML_MOST 201124912
 
 /* Bytes of stack that are enough for any call. Measured were at most 60,968 for
-   noemathu_write, 101,960 for noemathu_check and noemathu_read, 114,728 for the
-   lookups, 140,856 for noemathu_write_xml and 191,856 for noemathu_normalize. */
+   noemathu_write, 101,960 for noemathu_check and noemathu_read, 113,592 for the
+   lookups, 152,876 for noemathu_write_xml and 192,000 for noemathu_normalize. */
 #define NOEMATHU_STACK 262144
 
 /* The parent of a row that has none. */
