@@ -63,6 +63,12 @@ pub struct Row(pub u32);
 #[repr(C)]
 pub struct Offset(pub u32);
 
+// A row counted from 1, as links between rows hold it; 0 is no row.
+pub struct Position(pub u16);
+
+// The number of a name: two are equal exactly where the bytes are. 0 is the empty name.
+pub struct NameId(pub u16);
+
 // A part of the pool.
 #[repr(C)]
 pub struct Place {
