@@ -4,8 +4,7 @@ use Rattle.rules.specs.declared.Refusal.{Refusal}
 use Rattle.rules.specs.declared.Checked.{Checked}
 use Rattle.rules.specs.declared.Located.{Located}
 use Rattle.rules.specs.declared.Bound.{Bound}
-use Rattle.rules.specs.declared.Normalized.{Normalized}
-use Rattle.rules.specs.declared.Read.{Read}
+use Rattle.rules.specs.declared.Filled.{Filled}
 use Rattle.rules.specs.declared.Written.{Written}
 use Rattle.answers.specs.declared.Number.{Number}
 use Rattle.answers.specs.declared.Found.{Found}
@@ -27,11 +26,8 @@ locatedGiven a = record { number = numberGiven (rules.locatedNumber a); found = 
 abbrev pub boundGiven : Bound → Found
 boundGiven a = record { number = numberGiven (rules.boundNumber a); found = rules.boundFound a; place = rules.boundPlace a }
 
-abbrev pub normalizedGiven : Normalized → Sizes
-normalizedGiven a = record { number = numberGiven (rules.normalizedNumber a); rows = rules.normalizedRows a; bytes = rules.normalizedBytes a }
-
-abbrev pub readGiven : Read → Sizes
-readGiven a = record { number = numberGiven (rules.readNumber a); rows = rules.readRows a; bytes = rules.readBytes a }
+abbrev pub filledGiven : Filled → Sizes
+filledGiven a = record { number = numberGiven (rules.filledNumber a); rows = rules.filledRows a; bytes = rules.filledBytes a }
 
 abbrev pub writtenGiven : Written → Used
 writtenGiven a = record { number = numberGiven (rules.writtenNumber a); bytes = rules.writtenBytes a }

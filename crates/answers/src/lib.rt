@@ -1,13 +1,12 @@
 // RULES 2: the numbers and values of each answer, as structs that C reads too.
 ghost use mathlib.Core.Path.{_≡_};
-ghost use Rattle.answers.specs.Given.{refusalGiven, checkGiven, locatedGiven, boundGiven, normalizedGiven, readGiven, writtenGiven};
+ghost use Rattle.answers.specs.Given.{refusalGiven, checkGiven, locatedGiven, boundGiven, filledGiven, writtenGiven};
 use rules::Bound;
 use rules::Checked;
+use rules::Filled;
 use rules::Located;
-use rules::Normalized;
 use rules::Offset;
 use rules::Place;
-use rules::Read;
 use rules::Refusal;
 use rules::Row;
 use rules::Written;
@@ -95,21 +94,12 @@ pub fn bound(answer: Bound) -> Found
     }
 }
 
-pub fn normalized(answer: Normalized) -> Sizes
-    ensures { λ r. ⌜ r ≡ normalizedGiven answer ⌝ }
+pub fn filled(answer: Filled) -> Sizes
+    ensures { λ r. ⌜ r ≡ filledGiven answer ⌝ }
 {
     match answer {
-        Normalized::Done { rows, bytes } => Sizes::new(NOT_REFUSED, rows, bytes),
-        Normalized::Refused(refusal) => Sizes::new(number_of(refusal), 0, 0),
-    }
-}
-
-pub fn read(answer: Read) -> Sizes
-    ensures { λ r. ⌜ r ≡ readGiven answer ⌝ }
-{
-    match answer {
-        Read::Done { rows, bytes } => Sizes::new(NOT_REFUSED, rows, bytes),
-        Read::Refused(refusal) => Sizes::new(number_of(refusal), 0, 0),
+        Filled::Done { rows, bytes } => Sizes::new(NOT_REFUSED, rows, bytes),
+        Filled::Refused(refusal) => Sizes::new(number_of(refusal), 0, 0),
     }
 }
 

@@ -12,7 +12,8 @@ use lib.Seq.{length-take-le, take-at, take-append-seam, take-set-lt, set-append-
 use Rattle.rules.specs.Lists.{gathered, allOf}
 use Rattle.rules.specs.Table.{WIDTH, PREFIX, VALUE, Field, Node, nodes, wordsOf, words, node}
 use Rattle.rules.specs.Lookups.{place}
-use Rattle.rules.specs.Normalization.{withPrefix, withValue, padded}
+use Rattle.rules.specs.Outputs.{padded}
+use Rattle.rules.specs.Normalization.{withPrefix, withValue}
 use Rattle.rules.specs.declared.Place.{Place}
 use Rattle.rules.proofs.Table.{length-words}
 use Rattle.rules.proofs.Result.{fitsIn, rows-back}

@@ -13,10 +13,10 @@ use lib.Dec.{ltb}
 use borrow.Author.Tests.{ltb-false}
 use Rattle.rules.specs.Table.{WIDTH, MOST-ROWS, MOST-BYTES}
 use Rattle.rules.specs.Refusals.{verdict, refusedIf}
-use Rattle.rules.specs.Normalization.{Outcome, padded, refusal}
+use Rattle.rules.specs.Outputs.{Outcome, padded, refusal}
 use Rattle.rules.specs.declared.Refusal.{Refusal}
 use Rattle.rules.specs.declared.Checked.{Checked}
-use Rattle.rules.specs.declared.Normalized.{Normalized}
+use Rattle.rules.specs.declared.Filled.{Filled}
 use Rattle.rules.proofs.Refusals.{not-refused, AllNone, all-none, verdict-accepted, verdict-refused}
 use Rattle.rules.proofs.Lists.{both-false}
 use Rattle.rules.proofs.Bounds.{Limit}
@@ -32,13 +32,13 @@ pub limit-small : (words : ℕ) → words / WIDTH ≤ MOST-ROWS → Limit words 
 limit-small words h = (h, le-refl (words / WIDTH), inr refl)
 
 -- What a call answers and leaves in its outputs is an outcome.
-abbrev pub Answers : Outcome → Normalized → List ℕ → List ℕ → Type 0
+abbrev pub Answers : Outcome → Filled → List ℕ → List ℕ → Type 0
 Answers outcome answer table pool = (answer ≡ outcome .answer) × ((table ≡ outcome .table) × (pool ≡ outcome .pool))
 
 cleared-all : (l : List ℕ) → cleared l 0 ≡ replicate (length l) 0
 cleared-all l = let all : length l - 0 ≡ length l = omega arith in rw all refl
 
-pub refuses : (table pool : List ℕ) (x : Refusal) {table′ pool′ : List ℕ} → table′ ≡ cleared table 0 → pool′ ≡ cleared pool 0 → Answers (refusal (length table) (length pool) x) (Normalized.Refused x) table′ pool′
+pub refuses : (table pool : List ℕ) (x : Refusal) {table′ pool′ : List ℕ} → table′ ≡ cleared table 0 → pool′ ≡ cleared pool 0 → Answers (refusal (length table) (length pool) x) (Filled.Refused x) table′ pool′
 unfolding refusal
 refuses table pool x t p = (refl, (t ∙ cleared-all table, p ∙ cleared-all pool))
 
@@ -84,20 +84,20 @@ module _ (limit : ℕ) (table : List ℕ) (size : ℕ) (work : List ℕ) (rows b
   ended-completed h q = rw (h, q) refl
 
   -- What the room for the result tells of the answer.
-  pub answer-done : verdict (roomLack limit size rows bytes) ≡ Checked.Accepted → Normalized.Done rows bytes ≡ ended limit table size work rows bytes .answer
+  pub answer-done : verdict (roomLack limit size rows bytes) ≡ Checked.Accepted → Filled.Done rows bytes ≡ ended limit table size work rows bytes .answer
   unfolding ended completed
   answer-done e = rw (verdict-accepted (roomLack limit size rows bytes) e) refl
 
-  pub answer-refused : (x : Refusal) → verdict (roomLack limit size rows bytes) ≡ Checked.Refused x → Normalized.Refused x ≡ ended limit table size work rows bytes .answer
+  pub answer-refused : (x : Refusal) → verdict (roomLack limit size rows bytes) ≡ Checked.Refused x → Filled.Refused x ≡ ended limit table size work rows bytes .answer
   unfolding ended refusal
   answer-refused x e = rw (verdict-refused (roomLack limit size rows bytes) x e) refl
 
   -- The two ways of `finish`.
-  pub ended-refused : {x : Refusal} → verdict (roomLack limit size rows bytes) ≡ Checked.Refused x → {answer : Normalized} {table′ pool′ : List ℕ} → Answers (refusal (length table) size x) answer table′ pool′ → Answers (ended limit table size work rows bytes) answer table′ pool′
+  pub ended-refused : {x : Refusal} → verdict (roomLack limit size rows bytes) ≡ Checked.Refused x → {answer : Filled} {table′ pool′ : List ℕ} → Answers (refusal (length table) size x) answer table′ pool′ → Answers (ended limit table size work rows bytes) answer table′ pool′
   unfolding ended
   ended-refused {x} e given = rw (verdict-refused (roomLack limit size rows bytes) x e) given
 
-  pub ended-done : verdict (roomLack limit size rows bytes) ≡ Checked.Accepted → WIDTH * rows ≤ length table → bytes ≤ length work → {table′ : List ℕ} (pool : List ℕ) {copied pool′ : List ℕ} → length pool ≡ size → table′ ≡ cleared table (WIDTH * rows) → copied ≡ take bytes work ++ drop (length (take bytes work)) pool → pool′ ≡ cleared copied bytes → Answers (ended limit table size work rows bytes) (Normalized.Done rows bytes) table′ pool′
+  pub ended-done : verdict (roomLack limit size rows bytes) ≡ Checked.Accepted → WIDTH * rows ≤ length table → bytes ≤ length work → {table′ : List ℕ} (pool : List ℕ) {copied pool′ : List ℕ} → length pool ≡ size → table′ ≡ cleared table (WIDTH * rows) → copied ≡ take bytes work ++ drop (length (take bytes work)) pool → pool′ ≡ cleared copied bytes → Answers (ended limit table size work rows bytes) (Filled.Done rows bytes) table′ pool′
   unfolding ended completed
   ended-done e tableRoom workRoom pool {copied} same is-table is-copied is-pool =
       let fits = enough-bytes limit size rows bytes e in

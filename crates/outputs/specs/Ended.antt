@@ -7,9 +7,9 @@ use lib.ListN.{length, take}
 use lib.Dec.{ltb}
 use Rattle.rules.specs.Table.{WIDTH, MOST-BYTES}
 use Rattle.rules.specs.Refusals.{refusedIf, firstRefusal, unlessRefused}
-use Rattle.rules.specs.Normalization.{Outcome, padded, refusal}
+use Rattle.rules.specs.Outputs.{Outcome, padded, refusal}
 use Rattle.rules.specs.declared.Refusal.{Refusal}
-use Rattle.rules.specs.declared.Normalized.{Normalized}
+use Rattle.rules.specs.declared.Filled.{Filled}
 
 -- Refusals 10 and 11 of so many rows and bytes, where so many rows are allowed and the output pool has so many bytes.
 unfoldable pub roomLack : ℕ → ℕ → ℕ → ℕ → Option Refusal
@@ -20,7 +20,7 @@ roomLack limit poolSize rows bytes =
 unfoldable pub completed : List ℕ → ℕ → List ℕ → ℕ → ℕ → Outcome
 completed table poolSize work rows bytes =
     record {
-      answer = Normalized.Done rows bytes;
+      answer = Filled.Done rows bytes;
       table = padded (length table) (take (WIDTH * rows) table);
       pool = padded poolSize (take bytes work);
     }

@@ -1,14 +1,14 @@
-// The outputs of normalization: how many rows may stand in them, and what is left in them at the end.
+// The output table and the output pool that an operation fills: how many rows may stand in them, and what is left in them at the end.
 ghost use mathlib.Core.Path.{_≡_};
 ghost use Prim.Native.Nat.{_*_, _≤_};
 ghost use lib.ListN.{length};
 ghost use Rattle.rules.specs.Table.{WIDTH};
 ghost use Rattle.rules.specs.Refusals.{verdict};
-ghost use Rattle.rules.specs.Normalization.{refusal};
+ghost use Rattle.rules.specs.Outputs.{refusal};
 ghost use Rattle.rules.proofs.Bounds.{Limit};
 ghost use Rattle.outputs.specs.Ended.{roomLack, ended};
 use rules::Checked;
-use rules::Normalized;
+use rules::Filled;
 use rules::Refusal;
 
 // How many rows a result may have: as many as the output table holds whole, and no more than a table may.
@@ -23,14 +23,14 @@ pub fn row_limit(words: usize) -> usize
 }
 
 // Refuses, and clears both outputs.
-pub fn refuse(out_table: &mut [u32], out_pool: &mut [u8], why: Refusal) -> Normalized
+pub fn refuse(out_table: &mut [u32], out_pool: &mut [u8], why: Refusal) -> Filled
     ensures { λ r. ⌜ r ≡ refusal (length (now («out_table» .entry))) (length (now («out_pool» .entry))) why .answer ⌝ }
     ensures { λ _. ⌜ now («out_table» .exit) ≡ refusal (length (now («out_table» .entry))) (length (now («out_pool» .entry))) why .table ⌝ }
     ensures { λ _. ⌜ now («out_pool» .exit) ≡ refusal (length (now («out_table» .entry))) (length (now («out_pool» .entry))) why .pool ⌝ }
 {
     buffers::clear_words(out_table, 0);
     buffers::clear_bytes(out_pool, 0);
-    Normalized::Refused(why)
+    Filled::Refused(why)
 }
 
 // Ends a normalization whose result takes so many rows of the output table and so many bytes of a working pool: judges the room
@@ -42,7 +42,7 @@ pub fn finish(
     rows: usize,
     bytes: usize,
     limit: usize,
-) -> Normalized
+) -> Filled
     requires { ⌜ (rows ≤ limit → (WIDTH * rows ≤ length (now «out_table»)) × (bytes ≤ length (now work))) ⌝ }
     ensures { λ r. ⌜ r ≡ ended limit (now («out_table» .entry)) (length (now («out_pool» .entry))) (now (work .entry)) rows bytes .answer ⌝ }
     ensures { λ _. ⌜ now («out_table» .exit) ≡ ended limit (now («out_table» .entry)) (length (now («out_pool» .entry))) (now (work .entry)) rows bytes .table ⌝ }
@@ -53,7 +53,7 @@ pub fn finish(
             buffers::clear_words(out_table, rows);
             buffers::copy_bytes(&work[..bytes], out_pool);
             buffers::clear_bytes(out_pool, bytes);
-            Normalized::Done { rows, bytes }
+            Filled::Done { rows, bytes }
         }
         Checked::Refused(why) => refuse(out_table, out_pool, why),
     }

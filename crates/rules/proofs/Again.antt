@@ -15,10 +15,11 @@ use borrow.Author.Tests.{eqb-true, eqb-false, eq-eqb, ne-eqb, ltb-true, ltb-fals
 use Rattle.rules.specs.Lists.{anyOf, allOf, isEmpty, sameBytes}
 use Rattle.rules.specs.Table.{WIDTH, MOST-ROWS, MOST-BYTES, NONE, PREFIX, LOCAL-NAME, URI, VALUE, ELEMENT, DECLARATION, Field, noField, Node, noNode, wordedFields, nodes, words, node, rowCount, isElement, ParentRule}
 use Rattle.rules.specs.Utf8.{wellFormed}
-use Rattle.rules.specs.Answers.{normalizedRows, normalizedBytes}
+use Rattle.rules.specs.Answers.{filledRows, filledBytes}
 use Rattle.rules.specs.Refusals.{refusedIf, checked, badSize, parentRule, parentAllowed, secondElement, badStructure, offsetWithoutLength, placeRefusal, lengthRefusal, fieldsRefusal, encodingsRefusal, isDouble, faults, conflicts, rowRefusal, checkRefusal}
 use Rattle.rules.specs.Lookups.{scopeAt, inScopeUri, uriBytes}
-use Rattle.rules.specs.Normalization.{State, newDeclaration, withPrefix, isOwnDeclaration, revalued, declare, repairElement, Repair, keep, takeDeclared, takeBuiltIn, declareOwn, makeNumbered, repairOf, newPrefix, newRows, perform, isAttributeOf, repairAttribute, repairAttributes, normalizeRow, normalizeRows, normalForm, padded, success, tooManyRows, tooManyBytes, roomRefusal}
+use Rattle.rules.specs.Outputs.{padded}
+use Rattle.rules.specs.Normalization.{State, newDeclaration, withPrefix, isOwnDeclaration, revalued, declare, repairElement, Repair, keep, takeDeclared, takeBuiltIn, declareOwn, makeNumbered, repairOf, newPrefix, newRows, perform, isAttributeOf, repairAttribute, repairAttributes, normalizeRow, normalizeRows, normalForm, success, tooManyRows, tooManyBytes, roomRefusal}
 use Rattle.rules.specs.Demands.{PassesAgain}
 use Rattle.rules.specs.declared.Refusal.{Refusal}
 use Rattle.rules.proofs.Lists.{by-cases, both-true, both-false, true-both, not-true, sameBytes-refl, allOf-every, allOf-getD}
@@ -411,7 +412,7 @@ module _ (table pool : List ℕ) (a : Accepted table pool) where
         accept (words (made .rows)) (made .pool) made-size (λ r i. rw back (made-row r (rw count at i)))
 
 pub passes-again : PassesAgain
-unfolding success normalizedRows normalizedBytes padded checked
+unfolding success filledRows filledBytes padded checked
 passes-again table pool tableSize poolSize t =
     let s = succeeds table pool tableSize poolSize t in
     let made = normalForm (nodes table pool) pool in

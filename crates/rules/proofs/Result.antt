@@ -13,11 +13,12 @@ use lib.Dec.{T, eqb, leb, leb·zero}
 use borrow.Author.Tests.{leb-true, le-leb}
 use Rattle.rules.specs.Lists.{anyOf, allOf, sameBytes, isEmpty}
 use Rattle.rules.specs.Table.{WIDTH, PREFIX, LOCAL-NAME, URI, VALUE, ELEMENT, Field, noField, part, Node, noNode, word, fieldAt, nodeAt, rowCount, nodes, words, node}
-use Rattle.rules.specs.Answers.{numberOf, normalizedNumber, normalizedRows, normalizedBytes}
+use Rattle.rules.specs.Answers.{numberOf, filledNumber, filledRows, filledBytes}
 use Rattle.rules.specs.Refusals.{firstRefusal, unlessRefused, checkRefusal}
 use Rattle.rules.proofs.Refusals.{all-none}
 use Rattle.rules.specs.Lookups.{elementsFrom, isDeclarationOf, ownDeclarations, scopeOf, scopeAt, Binding, declared, builtInXml, builtInXmlns, unbound, inScopeUri, uriBytes, serves, inScopePrefix}
-use Rattle.rules.specs.Normalization.{State, newDeclaration, withPrefix, isOwnDeclaration, revalued, declare, repairElement, Repair, keep, takeDeclared, takeBuiltIn, declareOwn, makeNumbered, repairByDeclaring, repairBy, repairOf, newBytes, newPrefix, newRows, perform, isAttributeOf, repairAttribute, repairAttributes, normalizeRow, normalizeRows, normalForm, padded, refusal, success, level1Refusal, roomRefusal, normalizationRefusal, normalized}
+use Rattle.rules.specs.Outputs.{padded, refusal}
+use Rattle.rules.specs.Normalization.{State, newDeclaration, withPrefix, isOwnDeclaration, revalued, declare, repairElement, Repair, keep, takeDeclared, takeBuiltIn, declareOwn, makeNumbered, repairByDeclaring, repairBy, repairOf, newBytes, newPrefix, newRows, perform, isAttributeOf, repairAttribute, repairAttributes, normalizeRow, normalizeRows, normalForm, success, level1Refusal, roomRefusal, normalizationRefusal, normalized}
 use Rattle.rules.specs.Demands.{succeeded, resultRows}
 use Rattle.rules.specs.declared.Refusal.{Refusal}
 use Rattle.rules.proofs.Lists.{by-cases, both-true, true-both, T-true, true-not-false, sameBytes-equal, sameBytes-refl, equal-sameBytes, allOf-append, allOf-filtered, allOf-gathered, allOf-weaken, allOf-getD, allOf-every, allOf-set, allOf-map, allOf-firstThat}
@@ -295,7 +296,7 @@ module _ (pool : List ℕ) (ns : List Node) (h : allOf (fitsIn pool) ns ≡ true
 
 -- The answered parts of the buffers of a success are its rows.
 pub success-rows : (tableSize poolSize : ℕ) (s : State) → allOf (fitsIn (s .pool)) (s .rows) ≡ true → resultRows (success tableSize poolSize s) ≡ s .rows
-unfolding resultRows success normalizedRows normalizedBytes padded
+unfolding resultRows success filledRows filledBytes padded
 success-rows tableSize poolSize s h =
     rw (take-at (words (s .rows)) (replicate (tableSize - length (words (s .rows))) 0) (WIDTH * length (s .rows)) (length-words (s .rows)), take-at (s .pool) (replicate (poolSize - length (s .pool)) 0) (length (s .pool)) refl)
     (rows-back (s .pool) (s .rows) h)
@@ -328,7 +329,7 @@ refusal-numbered Refusal.Lengths = refl
 refusal-numbered Refusal.BundleRoom = refl
 
 refused-fails : (tableSize poolSize : ℕ) (x : Refusal) → succeeded (refusal tableSize poolSize x) ≡ false
-unfolding succeeded refusal normalizedNumber
+unfolding succeeded refusal filledNumber
 refused-fails tableSize poolSize x = refusal-numbered x
 
 -- What success tells: the check accepts, no row is of Level 1, and the outcome is the finished result.

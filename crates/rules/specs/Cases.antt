@@ -1,4 +1,4 @@
--- RULES 7, cases: M1 to M12, and before them one for each trap of RULES 8 that they leave out, and the order of a row's fields.
+-- RULES 7, cases: M1 to M12, and before them one for each trap of RULES 8 that they leave out, the order of a row's fields, and 14 among them.
 -- Each is an input, the sizes of the two outputs, and the whole outcome.
 use Prim.Native.Nat.{ℕ}
 use mathlib.Core.Bool.{Bool, _&&_}
@@ -6,8 +6,9 @@ use mathlib.Core.List.{List, [], _∷_, _++_}
 use lib.ListN.{replicate}
 use Rattle.rules.specs.Lists.{allOf, ascii, sameBytes}
 use Rattle.rules.specs.Table.{NONE}
-use Rattle.rules.specs.Answers.{normalizedNumber, normalizedRows, normalizedBytes}
-use Rattle.rules.specs.Normalization.{Outcome, normalized}
+use Rattle.rules.specs.Answers.{filledNumber, filledRows, filledBytes}
+use Rattle.rules.specs.Outputs.{Outcome}
+use Rattle.rules.specs.Normalization.{normalized}
 
 pub record Case : Type 0 where
   pub table : List ℕ
@@ -22,8 +23,8 @@ pub record Case : Type 0 where
 -- An outcome's answer as numbers.
 unfoldable pub answerNumbers : Outcome → List ℕ
 answerNumbers o =
-    normalizedNumber (o .answer) .number ∷ normalizedNumber (o .answer) .row ∷ normalizedNumber (o .answer) .word
-    ∷ normalizedRows (o .answer) ∷ normalizedBytes (o .answer) ∷ []
+    filledNumber (o .answer) .number ∷ filledNumber (o .answer) .row ∷ filledNumber (o .answer) .word
+    ∷ filledRows (o .answer) ∷ filledBytes (o .answer) ∷ []
 
 unfoldable pub gives : Case → Outcome → Bool
 gives c o = sameBytes (answerNumbers o) (c .answer) && sameBytes (o .table) (c .outTable) && sameBytes (o .pool) (c .outPool)

@@ -8,10 +8,11 @@ use lib.ListN.{length, take, drop}
 use lib.Dec.{T, eqb, ltb}
 use Rattle.rules.specs.Lists.{filtered, isOneOf, isEmpty, sameBytes}
 use Rattle.rules.specs.Table.{WIDTH, NONE, ELEMENT, ATTRIBUTE, DECLARATION, Field, Node, fields, nodes, node}
-use Rattle.rules.specs.Answers.{normalizedNumber, normalizedRows, normalizedBytes}
+use Rattle.rules.specs.Answers.{filledNumber, filledRows, filledBytes}
 use Rattle.rules.specs.Refusals.{checked}
 use Rattle.rules.specs.Lookups.{scopeAt, inScopeUri, uriBytes, isDefault, lookupElements, defaultUriAt, locatedPart}
-use Rattle.rules.specs.Normalization.{Outcome, normalized}
+use Rattle.rules.specs.Outputs.{Outcome}
+use Rattle.rules.specs.Normalization.{normalized}
 use Rattle.rules.specs.declared.Refusal.{Refusal}
 use Rattle.rules.specs.declared.Checked.{Checked}
 use Rattle.rules.specs.declared.Located.{Located}
@@ -25,14 +26,14 @@ DefaultTest =
 
 -- Normalization succeeded.
 unfoldable pub succeeded : Outcome → Bool
-succeeded o = eqb (normalizedNumber (o .answer) .number) 0
+succeeded o = eqb (filledNumber (o .answer) .number) 0
 
 -- The answered parts of the output table and the output pool.
 abbrev pub resultTable : Outcome → List ℕ
-resultTable o = take (WIDTH * normalizedRows (o .answer)) (o .table)
+resultTable o = take (WIDTH * filledRows (o .answer)) (o .table)
 
 abbrev pub resultPool : Outcome → List ℕ
-resultPool o = take (normalizedBytes (o .answer)) (o .pool)
+resultPool o = take (filledBytes (o .answer)) (o .pool)
 
 -- The result: the rows that the one has over the other.
 unfoldable pub resultRows : Outcome → List Node

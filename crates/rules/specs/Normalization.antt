@@ -1,16 +1,16 @@
 -- RULES 5, normalization, with refusals 9 to 11.
-use Prim.Native.Nat.{ℕ, zero, suc, _+_, _-_, _/_, _%_}
+use Prim.Native.Nat.{ℕ, zero, suc, _+_, _/_, _%_}
 use mathlib.Core.Bool.{Bool, cond, _&&_, _||_, not}
 use mathlib.Core.List.{List, [], _∷_, _++_, map}
 use mathlib.Core.Option.{Option}
-use lib.ListN.{length, set, replicate}
+use lib.ListN.{length, set}
 use lib.Dec.{eqb, ltb}
 use Rattle.rules.specs.Lists.{ascii, anyOf, isEmpty, sameBytes}
 use Rattle.rules.specs.Table.{WIDTH, MOST-ROWS, MOST-BYTES, ELEMENT, ATTRIBUTE, DECLARATION, xmlPrefix, xmlnsPrefix, Field, noField, Node, nodes, words, node, isLevel1}
 use Rattle.rules.specs.Refusals.{refusedIf, firstRefusal, lowestRefusal, unlessRefused, checkRefusal}
+use Rattle.rules.specs.Outputs.{Outcome, refusal, filled}
 use Rattle.rules.specs.Lookups.{isDeclarationOf, declares, scopeAt, Binding, declared, builtInXml, builtInXmlns, unbound, inScopeUri, uriBytes, inScopePrefix}
 use Rattle.rules.specs.declared.Refusal.{Refusal}
-use Rattle.rules.specs.declared.Normalized.{Normalized}
 
 -- What normalization has made so far: the rows, the new ones at the end, and the pool.
 pub record State : Type 0 where
@@ -168,28 +168,9 @@ normalizeRows total (suc count) s = normalizeRow total count (normalizeRows tota
 unfoldable pub normalForm : List Node → List ℕ → State
 normalForm ns pool = normalizeRows (length ns) (length ns) (record { rows = ns; pool = pool })
 
--- What normalization answers and leaves in the output table and the output pool.
-pub record Outcome : Type 0 where
-  pub answer : Normalized
-  pub table : List ℕ
-  pub pool : List ℕ
-
--- A buffer of a size that starts with the list; the rest is zero.
-unfoldable pub padded : ℕ → List ℕ → List ℕ
-padded size l = l ++ replicate (size - length l) 0
-
--- A refused normalization leaves its outputs all zero.
-unfoldable pub refusal : ℕ → ℕ → Refusal → Outcome
-refusal tableSize poolSize x =
-    record { answer = Normalized.Refused x; table = replicate tableSize 0; pool = replicate poolSize 0 }
-
+-- The result in the outputs.
 unfoldable pub success : ℕ → ℕ → State → Outcome
-success tableSize poolSize s =
-    record {
-      answer = Normalized.Done (length (s .rows)) (length (s .pool));
-      table = padded tableSize (words (s .rows));
-      pool = padded poolSize (s .pool);
-    }
+success tableSize poolSize s = filled tableSize poolSize (length (s .rows)) (words (s .rows)) (s .pool)
 
 -- 9: the lowest row of type 257 or 258.
 unfoldable pub level1Refusal : List Node → Option Refusal

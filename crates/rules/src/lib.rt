@@ -156,14 +156,8 @@ pub enum Bound {
     Refused(Refusal),
 }
 
-// What normalization answers: how many rows and pool bytes of the outputs the result takes.
-pub enum Normalized {
-    Done { rows: usize, bytes: usize },
-    Refused(Refusal),
-}
-
-// What reading a bundle answers: how many rows and pool bytes of the outputs it takes.
-pub enum Read {
+// What an operation answers that fills a lent table and a lent pool: how many rows and bytes of them it takes.
+pub enum Filled {
     Done { rows: usize, bytes: usize },
     Refused(Refusal),
 }
