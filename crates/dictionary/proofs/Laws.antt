@@ -16,9 +16,9 @@ use Rattle.numbers.specs.Numbers.{Names, Spelling}
 use Rattle.numbers.proofs.Laws.{same-number, found-names, none-names}
 use Rattle.chains.specs.Chains.{latest}
 use Rattle.chains.proofs.Laws.{latest-within, chain-none}
-use Rattle.dictionary.specs.Entries.{BUCKETS, LAST, NAMES, WIDTH, LENGTH, KIND, lastNumber, nameAt, isNamed, bucketAt, headAt, linkAt, Entries, Denotes}
+use Rattle.entries.specs.Entries.{BUCKETS, LAST, NAMES, WIDTH, LENGTH, KIND, lastNumber, nameAt, isNamed, bucketAt, headAt, linkAt, Entries, Denotes}
 use Rattle.dictionary.specs.Dictionary.{PLACES, entriesOf, lastOf, spelling, Dictionary}
-use Rattle.dictionary.proofs.Finding.{entry}
+use Rattle.entries.proofs.Finding.{entry}
 
 -- The numbers of a dictionary stand for names, and no two for the same.
 pub spelled : {d pool : List ℕ} → Dictionary d pool → Spelling (spelling d pool) (lastOf d)

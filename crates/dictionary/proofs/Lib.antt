@@ -1,9 +1,2 @@
-pub mod Hashing
-pub mod NameKinds
-pub mod PlainNames
-pub mod Entering
-pub mod Entered
-pub mod Finding
-pub mod Interning
 pub mod Places
 pub mod Laws

@@ -11,11 +11,11 @@ use lib.Seq.{take-all, drop-at, length-take-le, getD-take, drop-set-lt, getD-set
 use lib.Dec.{eqb, ltb}
 use Rattle.rules.specs.Table.{part}
 use Rattle.rules.proofs.Lists.{by-cases, both-true}
-use Rattle.dictionary.specs.Kinds.{kindOf}
-use Rattle.dictionary.specs.Entries.{KIND, word, nameAt, Entries, Denotes, Interned}
+use Rattle.kinds.specs.Kinds.{kindOf}
+use Rattle.entries.specs.Entries.{KIND, word, nameAt, Entries, Denotes, Interned}
 use Rattle.dictionary.specs.Dictionary.{SLOTS, PLACES, OFFSET, LENGTH, NUMBER, seen, entriesOf, Dictionary, remembered}
-use Rattle.dictionary.proofs.NameKinds.{kind-of-empty}
-use Rattle.dictionary.proofs.Entering.{here, apart}
+use Rattle.kinds.proofs.NameKinds.{kind-of-empty}
+use Rattle.entries.proofs.Entering.{here, apart}
 
 -- A dictionary has all its slots.
 pub has-places : {d pool : List ℕ} → Dictionary d pool → PLACES ≤ length d
@@ -72,13 +72,17 @@ module _ (d : List ℕ) (s offset size number : ℕ) (h : PLACES ≤ length d) (
       let other : (l : ℕ) → ltb l 3 ≡ true → 3 * t + k ≡ 3 * s + l → ⊥ = λ l m e. (let b = ltb-true l 3 m in n (omega arith)) in
       simp (getD-set-other, other)
 
+-- The same place is the same part. Of different places nothing follows: their parts may be equal or not, and the bytes decide.
+pub same-place : (pool : List ℕ) (o l offset size : ℕ) → (eqb o offset && eqb l size) ≡ true → part pool o l ≡ part pool offset size
+same-place pool o l offset size e =
+    let both = both-true (eqb o offset) (eqb l size) e in
+    rw (eqb-true o offset (both .0), eqb-true l size (both .1))
+
 -- A place that is seen has the number beside it.
 pub seen-denotes :
     {d pool : List ℕ} → Dictionary d pool → (s : ℕ) → s < SLOTS → (offset size : ℕ) {is : Bool} → is ≡ (eqb (seen d s OFFSET) offset && eqb (seen d s LENGTH) size) → is ≡ true
     → {n : ℕ} → n ≡ seen d s NUMBER → Denotes (entriesOf d) pool n (part pool offset size)
-seen-denotes {d} g s i offset size e t f =
-    let both = both-true (eqb (seen d s OFFSET) offset) (eqb (seen d s LENGTH) size) (sym e ∙ t) in
-    rw (f, ← eqb-true (seen d s OFFSET) offset (both .0), ← eqb-true (seen d s LENGTH) size (both .1)) (g .places s i)
+seen-denotes {d} {pool} g s i offset size e t f = rw (f, ← same-place pool (seen d s OFFSET) (seen d s LENGTH) offset size (sym e ∙ t)) (g .places s i)
 
 -- A new place is remembered beside the number that it has got.
 pub remembered-interned :

@@ -3,7 +3,7 @@ use Prim.Native.Nat.{ℕ, _+_, _*_, _<_}
 use mathlib.Core.List.{List}
 use lib.ListN.{getD, set, drop}
 use Rattle.rules.specs.Table.{part}
-use Rattle.dictionary.specs.Entries.{lastNumber, nameAt, Entries, Denotes}
+use Rattle.entries.specs.Entries.{lastNumber, nameAt, Entries, Denotes}
 
 -- How many places are remembered, and their words: the offset, the length and the number of each.
 abbrev pub SLOTS : ℕ

@@ -1,10 +1,10 @@
--- Byte strings go byte by byte: equality, a part as far as the pool goes, a good name.
+-- Byte strings go byte by byte: equality, a good name.
 -- Assumes nothing.
-use Prim.Native.Nat.{ℕ, zero, suc, _+_, _-_, _≤_, _<_, min}
+use Prim.Native.Nat.{ℕ, zero, suc, _+_, _-_, _≤_, _<_}
 use mathlib.Core.Path.{_≡_, refl, sym, ap, _∙_}
 use mathlib.Core.Bool.{Bool, true, false, _&&_, _||_, and-assoc, and-true, or-true, or-false}
 use mathlib.Core.List.{List, [], _∷_}
-use native.Mathlib.Nat.{le-of-suc-le-suc, not-suc-le-zero, zero-add, suc-add, zero-min, min-zero, suc-min-suc}
+use native.Mathlib.Nat.{le-of-suc-le-suc, not-suc-le-zero, zero-add, suc-add}
 use native.Mathlib.Numerals.{add-one}
 use native.Mathlib.Omega.{arith}
 use borrow.Author.Tests.{eq-eqb}
@@ -13,10 +13,6 @@ use lib.ListN.{length, getD, take, drop, length-drop, drop-of-length-le}
 use lib.Seq.{drop-cons, drop-drop}
 use Rattle.rules.specs.Lists.{allOf, sameBytes}
 use Rattle.rules.specs.Table.{part}
-use Rattle.rules.specs.declared.Bound.{Bound}
-use Rattle.rules.specs.declared.Located.{Located}
-use Rattle.rules.specs.Lookups.{boundPart, locatedPart}
-use Rattle.rules.specs.Answers.{boundPlace, locatedPlace}
 use Rattle.rules.specs.Refusals.{isBetween, isFirstByte, isNameByte, goodName}
 use Rattle.rules.proofs.Lists.{true-not-false, true-both, equal-sameBytes, unequal-sameBytes}
 use Rattle.names.proofs.Order.{end-then-front}
@@ -81,45 +77,6 @@ module _ (a b : List ℕ) where
   same-groups m n i h l p q e f =
       rw (e, f, ← drop-drop m i a, ← drop-drop m i b)
       (same-taken m n (drop i a) (drop i b) (simp length-drop (omega arith)) (simp length-drop (omega arith)))
-
--- To take or to drop more bytes than there are is to take or to drop all of them.
-take-min : (n : ℕ) (l : List ℕ) → take (min n (length l)) l ≡ take n l
-take-min zero l = rw zero-min
-take-min (suc n) [] = rw min-zero
-take-min (suc n) (x ∷ xs) = rw suc-min-suc (ap (λ r. x ∷ r) (take-min n xs))
-
-drop-min : (n : ℕ) (l : List ℕ) → drop (min n (length l)) l ≡ drop n l
-drop-min zero l = rw zero-min
-drop-min (suc n) [] = rw min-zero
-drop-min (suc n) (x ∷ xs) = rw suc-min-suc (drop-min n xs)
-
--- A part as far as the pool goes.
-pub part-within :
-    (pool : List ℕ) (offset size start count : ℕ) → start ≡ min offset (length pool) → count ≡ min size (length pool - start)
-    → take count (drop start pool) ≡ part pool offset size
-part-within pool offset size start count e f =
-    let front : take count (drop start pool) ≡ take size (drop start pool) = rw (f, ← length-drop start pool) (take-min size (drop start pool)) in
-    let back : drop start pool ≡ drop offset pool = rw e (drop-min offset pool) in
-    front ∙ ap (take size) back
-
--- The part of the pool that an answer stands for, and its place.
-pub bound-as :
-    (pool : List ℕ) (answer form : Bound) → answer ≡ form
-    → (part pool (boundPlace form .offset .0) (boundPlace form .length) ≡ boundPart pool answer) × (boundPlace answer ≡ boundPlace form)
-unfolding boundPart boundPlace
-bound-as pool answer (Bound.At p) is = (rw is, rw is)
-bound-as pool answer Bound.Xml is = (rw is, rw is)
-bound-as pool answer Bound.Xmlns is = (rw is, rw is)
-bound-as pool answer Bound.Nothing is = (rw is, rw is)
-bound-as pool answer (Bound.Refused x) is = (rw is, rw is)
-
-pub located-as :
-    (pool : List ℕ) (answer form : Located) → answer ≡ form
-    → (part pool (locatedPlace form .offset .0) (locatedPlace form .length) ≡ locatedPart pool answer) × (locatedPlace answer ≡ locatedPlace form)
-unfolding locatedPart locatedPlace
-located-as pool answer (Located.At p) is = (rw is, rw is)
-located-as pool answer Located.Nothing is = (rw is, rw is)
-located-as pool answer (Located.Refused x) is = (rw is, rw is)
 
 module _ (test : ℕ → Bool) (l : List ℕ) (i : ℕ) where
   pub all-step : i < length l → test (getD l i 0) ≡ true → allOf test (drop (i + 1) l) ≡ allOf test (drop i l)

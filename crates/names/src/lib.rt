@@ -1,16 +1,10 @@
-// Byte strings: names, prefixes and URIs as parts of the pool.
+// Byte strings: equality, good names, the built-in prefixes and URIs.
 ghost use mathlib.Core.Path.{_≡_};
-ghost use Prim.Native.Nat.{_+_, _≤_, min};
+ghost use Prim.Native.Nat.{_+_, _≤_};
 ghost use lib.ListN.{length};
 ghost use Rattle.rules.specs.Lists.{sameBytes};
 ghost use Rattle.rules.specs.Table.{part, xmlPrefix, xmlnsPrefix, xmlUri, xmlnsUri};
-ghost use Rattle.rules.specs.Lookups.{boundPart, locatedPart};
-ghost use Rattle.rules.specs.Answers.{boundPlace, locatedPlace};
 ghost use Rattle.rules.specs.Refusals.{isFirstByte, isNameByte, goodName};
-ghost use Rattle.names.specs.Parts.{StandsAt};
-use rules::Bound;
-use rules::Located;
-use rules::Offset;
 
 // The two byte strings are equal, byte by byte. From the end, where most that share a length differ:
 // single bytes down to a multiple of four, then fours.
@@ -34,54 +28,6 @@ pub fn same(a: &[u8], b: &[u8]) -> bool
         }
     }
     true
-}
-
-// The part of the pool that starts at an offset, as far as the pool goes.
-pub fn part<'p>(pool: &'p [u8], offset: Offset, length: u32) -> &'p [u8]
-    ensures { λ r. ⌜ now r ≡ part (now (pool .entry)) (offset .0) length ⌝ }
-    ensures { λ r. ⌜ StandsAt (pool .entry) (offset .0) r ⌝ }
-{
-    let start = least(offset.0 as usize, pool.len());
-    let size = least(length as usize, pool.len() - start);
-    &pool[start..start + size]
-}
-
-// The part of the pool that an answer for a URI stands for; empty for a built-in, for nothing and for a refusal.
-pub fn bound_part<'p>(pool: &'p [u8], found: Bound) -> &'p [u8]
-    ensures { λ r. ⌜ now r ≡ boundPart (now (pool .entry)) found ⌝ }
-    ensures { λ r. ⌜ StandsAt (pool .entry) (boundPlace found .offset .0) r ⌝ }
-{
-    match found {
-        Bound::At(place) => part(pool, place.offset, place.length),
-        Bound::Xml => part(pool, Offset(0), 0),
-        Bound::Xmlns => part(pool, Offset(0), 0),
-        Bound::Nothing => part(pool, Offset(0), 0),
-        Bound::Refused(_) => part(pool, Offset(0), 0),
-    }
-}
-
-// The part of the pool that an answer for a prefix or for the default URI stands for; empty for nothing and for a refusal.
-pub fn located_part<'p>(pool: &'p [u8], found: Located) -> &'p [u8]
-    ensures { λ r. ⌜ now r ≡ locatedPart (now (pool .entry)) found ⌝ }
-    ensures { λ r. ⌜ StandsAt (pool .entry) (locatedPlace found .offset .0) r ⌝ }
-{
-    match found {
-        Located::At(place) => part(pool, place.offset, place.length),
-        Located::Nothing => part(pool, Offset(0), 0),
-        Located::Refused(_) => part(pool, Offset(0), 0),
-    }
-}
-
-// The part of the pool that starts at an offset, as far as the pool goes, is this name.
-pub fn is_part(pool: &[u8], offset: Offset, length: u32, name: &[u8]) -> bool
-    ensures { λ r. ⌜ r ≡ sameBytes (part (now (pool .entry)) (offset .0) length) (now (name .entry)) ⌝ }
-{
-    let start = offset.0 as usize;
-    let end = start + length as usize;
-    if end <= pool.len() {
-        return same(&pool[start..end], name);
-    }
-    same(part(pool, offset, length), name)
 }
 
 // The bytes make a good prefix or local name, or there are none.
@@ -147,16 +93,6 @@ fn same_two(a: &[u8], b: &[u8], i: usize) -> bool
     ensures { λ r. ⌜ r ≡ sameBytes (part (now (a .entry)) i 2) (part (now (b .entry)) i 2) ⌝ }
 {
     (a[i] == b[i]) & (a[i + 1] == b[i + 1])
-}
-
-// The smaller of two numbers.
-fn least(a: usize, b: usize) -> usize
-    ensures { λ r. ⌜ r ≡ min a b ⌝ }
-{
-    if a < b {
-        return a;
-    }
-    b
 }
 
 // A letter, `_` or a byte from 128; with colons, `:` too. The small letters, which most bytes of a

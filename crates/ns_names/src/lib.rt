@@ -5,6 +5,7 @@ ghost use Prim.Native.Nat.{ℕ};
 ghost use Rattle.dictionary.specs.Dictionary.{lastOf, spelling, Dictionary};
 ghost use Rattle.ns_names.specs.Numbers.{follows, numberOf};
 ghost use Rattle.ns_names.specs.Records.{numberedAt, Entered, entered};
+use rules::NameId;
 
 // The words of a record, and the one of them that is the number of a name.
 const RECORD: usize = 4;
@@ -18,12 +19,12 @@ pub fn enter_all(dictionary: &[u16], pool: &[u8], records: &mut [u16])
     requires { ⌜ ((k : ℕ) → numberedAt (now records) k ≡ 0) ⌝ }
     ensures { λ _. ⌜ Entered (spelling (now (dictionary .entry)) (now (pool .entry))) (lastOf (now (dictionary .entry))) (now (records .entry)) (now (records .exit)) ⌝ }
 {
-    let last = dictionary::last(dictionary);
+    let last = dictionary::last(dictionary).0;
     let mut n: u16 = 0;
     while n < last {
         n += 1;
-        let k = numbered(dictionary::name_of(dictionary, pool, n));
-        enter(records, k, n);
+        let k = numbered(dictionary::name_of(dictionary, pool, NameId(n)));
+        enter(records, k, NameId(n));
     }
 }
 
@@ -54,13 +55,13 @@ pub fn numbered(name: &[u8]) -> u32
 }
 
 // Enters the number of a name in record k; there is none for 0.
-fn enter(records: &mut [u16], k: u32, number: u16)
-    ensures { λ _. ⌜ now (records .exit) ≡ entered (now (records .entry)) k number ⌝ }
+fn enter(records: &mut [u16], k: u32, number: NameId)
+    ensures { λ _. ⌜ now (records .exit) ≡ entered (now (records .entry)) k (number .0) ⌝ }
 {
     let at = RECORD * k as usize + NUMBERED;
     if k > 0 {
         if at < records.len() {
-            records[at] = number;
+            records[at] = number.0;
         }
     }
 }

@@ -4,7 +4,6 @@ ghost use mathlib.Core.Path.{_≡_};
 ghost use Prim.Native.Nat.{_<_};
 ghost use lib.ListN.{length, getD};
 ghost use lib.Dec.{ltb};
-ghost use Rattle.rules.specs.Lists.{sameBytes};
 ghost use Rattle.rules.specs.Table.{WIDTH, TYPE, PARENT, word, fieldAt, rowCount, isElement, isLevel1};
 ghost use Rattle.rows.specs.Reading.{HasField, placeAt};
 use rules::Offset;
@@ -64,16 +63,7 @@ pub fn field<'p>(table: &[u32], pool: &'p [u8], row: Row, field: u32) -> &'p [u8
     ensures { λ r. ⌜ now r ≡ fieldAt (now (table .entry)) (now (pool .entry)) (row .0) field .bytes ⌝ }
 {
     let offset = Offset(word(table, row, field));
-    names::part(pool, offset, word(table, row, field + 1))
-}
-
-// The field of a row is this name.
-pub fn field_is(table: &[u32], pool: &[u8], row: Row, field: u32, name: &[u8]) -> bool
-    requires { ⌜ HasField (now table) (row .0) field ⌝ }
-    ensures { λ r. ⌜ r ≡ sameBytes (fieldAt (now (table .entry)) (now (pool .entry)) (row .0) field .bytes) (now (name .entry)) ⌝ }
-{
-    let offset = Offset(word(table, row, field));
-    names::is_part(pool, offset, word(table, row, field + 1), name)
+    pool::part(pool, offset, word(table, row, field + 1))
 }
 
 // The type is that of an element, of DOM Level 2 or 1.

@@ -4,7 +4,7 @@ use mathlib.Core.Path.{ap, _∙_}
 use mathlib.Core.List.{List}
 use Prim.Native.Nat.{ℕ}
 use denote.Ref.{now}
-use Rattle.dictionary.specs.Entries.{KIND, word}
+use Rattle.entries.specs.Entries.{KIND, word}
 use Rattle.dictionary.proofs.Places.{has-places, lent, kind-named}
 use borrow.Author.Needs.{needs}
 use Rattle.dictionary.proofs.kind.Statement.{statement}
@@ -25,7 +25,7 @@ word-requires c κs = search needs
 returns : tie.Need-returns
 returns c =
     let s = c .before .before .before in
-    λ pool name g named. c .word .ensures ∙ ap (λ (e : List ℕ). word e (s .args .number) KIND) (lent (now (s .args .dictionary)) (has-places g)) ∙ kind-named g (s .args .number) named
+    λ pool name g named. c .word .ensures ∙ ap (λ (e : List ℕ). word e (s .args .number .0) KIND) (lent (now (s .args .dictionary)) (has-places g)) ∙ kind-named g (s .args .number .0) named
 
 pub kind-spec : {M : Type 1} → statement M
 kind-spec = tie.close (tie.spec sub-word part-word-start part-word-end word-requires returns)

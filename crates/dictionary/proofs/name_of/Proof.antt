@@ -5,7 +5,7 @@ use mathlib.Core.Path.{ap, _∙_}
 use mathlib.Core.List.{List}
 use native.Mathlib.Omega.{arith}
 use denote.Ref.{now}
-use Rattle.dictionary.specs.Entries.{nameAt}
+use Rattle.entries.specs.Entries.{nameAt}
 use Rattle.dictionary.proofs.Places.{lent}
 use borrow.Author.Needs.{needs}
 use Rattle.dictionary.proofs.name_of.Statement.{statement}
@@ -26,7 +26,7 @@ name-of-requires c κs = search needs
 returns : tie.Need-returns
 returns c =
     let s = c .before .before .before .before in
-    c .name-of .ensures ∙ ap (λ (e : List ℕ). nameAt e (now (s .args .pool)) (s .args .number)) (lent (now (s .args .dictionary)) (omega arith))
+    c .name-of .ensures ∙ ap (λ (e : List ℕ). nameAt e (now (s .args .pool)) (s .args .number .0)) (lent (now (s .args .dictionary)) (omega arith))
 
 pub name-of-spec : {M : Type 1} → statement M
 name-of-spec =

@@ -15,37 +15,29 @@ returns c =
 recall-requires : tie.Need-recall-requires
 recall-requires c κs =
     let s = c .before .before .before .before .before in
-    let inside = s .pre .1 .1 .0 in
-    let small = s .pre .1 .1 .1 in
-    (has-places (s .pre .0), (omega arith, omega arith))
+    has-places (s .pre .0)
 
 same-length : tie.Need-same-length
 same-length c = search needs
 
 returns-2 : tie.Need-returns-2
 returns-2 c =
-    let s = c .before .before .before .before .before .before .before in
-    (s .pre .0, denoted (c .before .recall .ensures (now (s .args .pool)) (s .pre .0) (c .if2 .taken)))
-
-cast-offset : tie.Need-cast-offset
-cast-offset c = search needs
-
-cast-size : tie.Need-cast-size
-cast-size c = search needs
+    let s = c .before .before .before .before .before .before .before .before in
+    (s .pre .0, denoted (c .before .before .recall .ensures (now (s .args .pool)) (s .pre .0) (c .if2 .taken)))
 
 sub-intern : tie.Need-sub-intern
-sub-intern c = has-places (c .before .before .before .before .before .before .before .before .before .pre .0)
+sub-intern c = has-places (c .before .before .before .before .before .before .before .before .pre .0)
 
 part-intern-start : tie.Need-part-intern-start
-part-intern-start c = has-places (c .before .before .before .before .before .before .before .before .before .pre .0)
+part-intern-start c = has-places (c .before .before .before .before .before .before .before .before .pre .0)
 
 part-intern-end : tie.Need-part-intern-end
 part-intern-end c = search needs
 
 intern-requires : tie.Need-intern-requires
 intern-requires c κs =
-    let s = c .before .before .before .before .before .before .before .before .before .before in
-    let full = c .before .before .before .before .before .before .if1 .left in
+    let s = c .before .before .before .before .before .before .before .before .before in
+    let full = c .before .before .before .before .before .if1 .left in
     rw (lent (now (s .args .dictionary)) (has-places (s .pre .0))) (s .pre .0 .entries, (s .pre .1 .0, (s .pre .1 .1, omega arith)))
 
 slot-of-requires : tie.Need-slot-of-requires
@@ -62,7 +54,7 @@ returns-3 c =
     let r = c .before .before in
     let w = r .before in
     let n = c .before .before .before .before .before .before .before in
-    let s = c .before .before .before .before .before .before .before .before .before .before .before .before .before .before .before .before .before .before in
+    let s = c .before .before .before .before .before .before .before .before .before .before .before .before .before .before .before .before .before in
     let e = lent (now (s .args .dictionary)) (has-places (s .pre .0)) in
     remembered-interned (now (s .args .dictionary)) (now (s .args .pool)) (s .pre .0) (w .slot-of .result) (w .slot-of .ensures) (s .args .place .offset .0) (s .args .place .length) (n .intern .ensures .0) (rw e at (n .intern .ensures .1)) (r .remember .ensures)
 
@@ -74,8 +66,6 @@ number-of-spec =
     recall-requires
     same-length
     returns-2
-    cast-offset
-    cast-size
     sub-intern
     part-intern-start
     part-intern-end

@@ -32,24 +32,24 @@ find-requires c κs =
 
 returns-2 : tie.Need-returns-2
 returns-2 c =
-    let s = c .before .before .before .before .before .before .before .before in
+    let s = c .before .before .before .before .before .before .before .before .before in
     let e = lent (now (s .args .dictionary)) (has-places (s .pre .0)) in
-    let f = rw e at (c .before .find .ensures) in
+    let f = rw e at (c .before .before .find .ensures) in
     (asked-within (s .pre .0) (now (s .args .name)) f, asked-found (s .pre .0) (now (s .args .name)) f (c .if2 .taken))
 
 last-requires : tie.Need-last-requires
-last-requires c κs = has-last (c .before .before .before .before .before .before .before .before .pre .0)
+last-requires c κs = has-last (c .before .before .before .before .before .before .before .before .before .pre .0)
 
-add-result : tie.Need-add-result
-add-result c = search needs
+add-t12 : tie.Need-add-t12
+add-t12 c = search needs
 
 returns-3 : tie.Need-returns-3
 returns-3 c =
-    let s = c .before .before .before .before .before .before .before .before .before in
-    let i = c .before in
+    let s = c .before .before .before .before .before .before .before .before .before .before .before in
+    let i = c .before .before in
     let e = lent (now (s .args .dictionary)) (has-places (s .pre .0)) in
-    let f = rw e at (i .before .find .ensures) in
-    rw (c .last .ensures) (omega arith, asked-none (s .pre .0) (now (s .args .name)) f (i .if2 .left) (λ z. i .before .before .before .before .if1 .left z))
+    let f = rw e at (i .before .before .find .ensures) in
+    rw (c .before .last .ensures) (omega arith, asked-none (s .pre .0) (now (s .args .name)) f (i .if2 .left) (λ z. i .before .before .before .before .before .if1 .left z))
 
 pub number-of-name-spec : {M : Type 1} → statement M
 number-of-name-spec =
@@ -63,5 +63,5 @@ number-of-name-spec =
     find-requires
     returns-2
     last-requires
-    add-result
+    add-t12
     returns-3)

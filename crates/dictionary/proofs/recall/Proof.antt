@@ -6,12 +6,6 @@ use borrow.Author.Needs.{needs}
 use Rattle.dictionary.proofs.recall.Statement.{statement}
 use Rattle.dictionary.proofs.recall.Tie as tie
 
-cast-offset : tie.Need-cast-offset
-cast-offset c = search needs
-
-cast-size : tie.Need-cast-size
-cast-size c = search needs
-
 slot-of-requires : tie.Need-slot-of-requires
 slot-of-requires c κs = search needs
 
@@ -26,20 +20,11 @@ returns c =
     let i = c .before in
     let n = i .before in
     let w = n .before in
-    let s = w .before .before .before .before in
+    let s = w .before .before in
     λ pool g h. seen-denotes g (w .slot-of .result) (w .slot-of .ensures) (s .args .place .offset .0) (s .args .place .length) (n .is-seen .ensures) (i .if1 .taken) (c .seen .ensures)
 
 returns-2 : tie.Need-returns-2
 returns-2 c = λ pool g h. absurd (omega arith)
 
 pub recall-spec : {M : Type 1} → statement M
-recall-spec =
-    tie.close
-    (tie.spec
-    cast-offset
-    cast-size
-    slot-of-requires
-    is-seen-requires
-    seen-requires
-    returns
-    returns-2)
+recall-spec = tie.close (tie.spec slot-of-requires is-seen-requires seen-requires returns returns-2)

@@ -8,6 +8,9 @@ use Rattle.dictionary.specs.Dictionary.{remembered}
 use Rattle.dictionary.proofs.remember.Statement.{statement}
 use Rattle.dictionary.proofs.remember.Tie as tie
 
+cast-dictionary : tie.Need-cast-dictionary
+cast-dictionary c = search needs
+
 mul-dictionary : tie.Need-mul-dictionary
 mul-dictionary c = search needs
 
@@ -19,6 +22,9 @@ mul-dictionary-2 c = search needs
 
 slice-write-dictionary : tie.Need-slice-write-dictionary
 slice-write-dictionary c = search needs
+
+cast-dictionary-2 : tie.Need-cast-dictionary-2
+cast-dictionary-2 c = search needs
 
 mul-dictionary-3 : tie.Need-mul-dictionary-3
 mul-dictionary-3 c = search needs
@@ -52,20 +58,4 @@ unfolding remembered
 returns c = refl
 
 pub remember-spec : {M : Type 1} → statement M
-remember-spec =
-    tie.close
-    (tie.spec
-    mul-dictionary
-    add-dictionary
-    mul-dictionary-2
-    slice-write-dictionary
-    mul-dictionary-3
-    add-dictionary-2
-    mul-dictionary-4
-    slice-write-dictionary-2
-    mul-dictionary-5
-    add-dictionary-3
-    mul-dictionary-6
-    slice-write-dictionary-3
-    same-length
-    returns)
+remember-spec = tie.close (tie.spec cast-dictionary mul-dictionary add-dictionary mul-dictionary-2 slice-write-dictionary cast-dictionary-2 mul-dictionary-3 add-dictionary-2 mul-dictionary-4 slice-write-dictionary-2 mul-dictionary-5 add-dictionary-3 mul-dictionary-6 slice-write-dictionary-3 same-length returns)

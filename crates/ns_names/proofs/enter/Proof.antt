@@ -24,17 +24,17 @@ same-length c = search needs
 returns : tie.Need-returns
 returns c =
     let s = c .before .before in
-    entered-here (now (s .args .records)) (s .args .k) (s .args .number) (c .before .if1 .taken) (c .if2 .taken)
+    entered-here (now (s .args .records)) (s .args .k) (s .args .number .0) (c .before .if1 .taken) (c .if2 .taken)
 
 returns-2 : tie.Need-returns-2
 returns-2 c =
     let s = c .before .before in
-    entered-past (now (s .args .records)) (s .args .k) (s .args .number) (c .if2 .left)
+    entered-past (now (s .args .records)) (s .args .k) (s .args .number .0) (c .if2 .left)
 
 returns-3 : tie.Need-returns-3
 returns-3 c =
     let s = c .before in
-    entered-none (now (s .args .records)) (s .args .k) (s .args .number) (c .if1 .left)
+    entered-none (now (s .args .records)) (s .args .k) (s .args .number .0) (c .if1 .left)
 
 pub enter-spec : {M : Type 1} → statement M
 enter-spec =

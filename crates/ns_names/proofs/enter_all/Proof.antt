@@ -63,7 +63,7 @@ returns c =
     let l = c .before .loop in
     let e = c .before .before .last .ensures in
     let bound = l .inv .0 in
-    let end : l .n ≡ c .before .before .last .result = omega arith in
+    let end : l .n ≡ c .before .before .last .result .0 = omega arith in
     rw (← e, ← end) (l .inv .1)
 
 pub enter-all-spec : {M : Type 1} → statement M

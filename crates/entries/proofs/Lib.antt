@@ -1,0 +1,4 @@
+pub mod Entering
+pub mod Entered
+pub mod Finding
+pub mod Interning

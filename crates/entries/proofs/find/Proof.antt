@@ -1,0 +1,63 @@
+-- `find` meets its contract. The invariant: what is left of the chain decides.
+-- Assumes nothing.
+use Prim.Native.Nat.{_%_}
+use mathlib.Core.Path.{refl, sym, _∙_}
+use native.Mathlib.Omega.{arith}
+use borrow.Author.Needs.{needs}
+use denote.Ref.{now}
+use Rattle.chains.specs.Chains.{Search, Walked}
+use Rattle.chains.proofs.Laws.{walk-start, walk-end, walk-found, walk-falls, walk-next}
+use Rattle.entries.specs.Entries.{BUCKETS, lastNumber, isNamed, bucketAt, headAt, linkAt}
+use Rattle.entries.proofs.Finding.{name-search}
+use Rattle.entries.proofs.find.Statement.{statement}
+use Rattle.entries.proofs.find.Tie as tie
+
+abbrev Inv-loop : tie.InvT-loop
+Inv-loop entries pool name hash at₀ at = Walked (isNamed entries pool name) (bucketAt entries) (hash % BUCKETS) (lastNumber entries) at
+
+abbrev μ-loop : tie.MeasureT-loop
+μ-loop entries pool name hash at₀ at = at
+
+looking : (s : tie.Start Inv-loop μ-loop) → Search BUCKETS (bucketAt (now (s .args .entries))) (headAt (now (s .args .entries))) (linkAt (now (s .args .entries))) (lastNumber (now (s .args .entries))) (s .args .hash % BUCKETS) (isNamed (now (s .args .entries)) (now (s .args .pool)) (now (s .args .name)))
+looking s = name-search (now (s .args .entries)) (now (s .args .pool)) (s .pre .0) (now (s .args .name)) (s .args .hash) (s .pre .1)
+
+mul-at : tie.Need-mul-at Inv-loop μ-loop
+mul-at c = search needs
+
+shared-slice-read-at : tie.Need-shared-slice-read-at Inv-loop μ-loop
+shared-slice-read-at c = search needs
+
+loop-holds : tie.Need-loop-holds Inv-loop μ-loop
+loop-holds c = walk-start (looking (c .before .before .before .before)) _ refl
+
+is-named-requires : tie.Need-is-named-requires Inv-loop μ-loop
+is-named-requires c κs =
+    let s = c .before .before .before .before .before .before in
+    (s .pre .0, (s .pre .1, (c .loop-test .taken, c .before .loop .inv .within)))
+
+returns : tie.Need-returns Inv-loop μ-loop
+returns c =
+    let l = c .before .before .before in
+    sym (walk-found (looking (l .before .before .before .before .before)) (l .loop .at) (l .loop .inv) (c .before .before .loop-test .taken) (sym (c .before .is-named .ensures) ∙ c .if1 .taken))
+
+word-requires : tie.Need-word-requires Inv-loop μ-loop
+word-requires c κs = search needs
+
+loop-less : tie.Need-loop-less Inv-loop μ-loop
+loop-less c =
+    let l = c .before .before .before .before in
+    walk-falls (looking (l .before .before .before .before .before)) (l .loop .at) (l .loop .inv) (c .before .before .before .loop-test .taken) (c .word .result) (c .word .ensures)
+
+loop-again : tie.Need-loop-again Inv-loop μ-loop
+loop-again c =
+    let l = c .before .before .before .before in
+    walk-next (looking (l .before .before .before .before .before)) (l .loop .at) (l .loop .inv) (c .before .before .before .loop-test .taken) (c .word .result) (c .word .ensures) (sym (c .before .before .is-named .ensures) ∙ c .before .if1 .left)
+
+returns-2 : tie.Need-returns-2 Inv-loop μ-loop
+returns-2 c =
+    let l = c .before in
+    let z = walk-end (looking (l .before .before .before .before .before)) (l .loop .at) (l .loop .inv) (omega arith) in
+    omega arith
+
+pub find-spec : {M : Type 1} → statement M
+find-spec = tie.close (tie.spec Inv-loop μ-loop mul-at shared-slice-read-at loop-holds is-named-requires returns word-requires loop-less loop-again returns-2)
