@@ -2,94 +2,70 @@
 -- Assumes nothing.
 use Prim.Native.Nat.{ℕ, _+_, _*_, _≤_, _<_}
 use mathlib.Core.Path.{_≡_, refl, sym, ap, _∙_}
-use mathlib.Core.Bool.{true, false}
-use mathlib.Core.List.{List, [], _∷_, _++_}
+use mathlib.Core.Bool.{Bool, true, false}
+use mathlib.Core.List.{List, [], _∷_}
 use mathlib.Core.Option.{Option, none, some}
 use native.Mathlib.Omega.{arith}
 use borrow.Author.Tests.{eqb-true, eqb-false}
 use lib.Dec.{eqb}
 use lib.ListN.{length, replicate, length-replicate, getD-replicate}
-use Rattle.rules.specs.Table.{MOST-ROWS, MOST-BYTES, NONE, Node, nodeAt, nodes, node, rowCount, isElement}
-use Rattle.rules.specs.Refusals.{refusedIf, firstRefusal, badSize, badStructure, fieldsRefusal, encodingsRefusal, badNames, badNamespace, badDeclaration, faults, conflicts, rowRefusal, verdict, checkRefusal, checked}
+use Rattle.rules.specs.Table.{MOST-ROWS, MOST-BYTES, NONE, nodeAt, nodes, rowCount, isElement}
+use Rattle.rules.specs.Refusals.{firstRefusal, badSize, faults, conflicts, rowRefusal, verdict, checkRefusal, checked}
 use Rattle.rules.specs.declared.Refusal.{Refusal}
 use Rattle.rules.specs.declared.Checked.{Checked}
-use Rattle.rules.proofs.Lists.{by-cases, true-not-false}
-use Rattle.rules.proofs.Table.{node-nodes}
-use Rattle.rules.proofs.Refusals.{not-refused, all-none, verdict-accepted, verdict-refused, first-alone, first-append, refusalFrom, from-start, from-refused, from-next, from-end}
-use Rattle.rules.proofs.Accepted.{structure-falls}
+use Rattle.rules.proofs.Lists.{by-cases}
+use Rattle.rules.proofs.Refusals.{verdict-accepted, verdict-refused, first-alone, first-append, refusalFrom, from-start, from-refused, from-next, from-end}
 use Rattle.notes.specs.Notes.{NOTES, LATEST, noteAt}
 use Rattle.numbers.specs.Noted.{NodeNumbered, Numbered}
 use Rattle.dictionary.specs.Dictionary.{lastOf, spelling, Dictionary}
 use Rattle.dictionary.proofs.Laws.{spelled, cleared, none-given}
-use Rattle.row_names.specs.RowNames.{namesRefusal, HasRoom, RowNumbered}
-use Rattle.doubles.specs.Doubles.{BUCKETS, Entered, hasDouble}
+use Rattle.tree.specs.Children.{lastBefore, Latest}
+use Rattle.numbering.specs.Numbering.{HasRoom, RowNumbered}
+use Rattle.faults.specs.Faults.{faultRefusal}
+use Rattle.doubles.specs.Doubles.{BUCKETS, Entered}
 use Rattle.doubles.proofs.Adding.{begun, renumbered}
-use Rattle.tree.specs.Children.{lastBefore, Latest, ParentBefore}
+use Rattle.conflicts.specs.Conflicts.{conflictRefusal}
+use Rattle.conflicts.proofs.Laws.{conflicts-all}
 use Rattle.checker.specs.Lent.{dictionaryWords, Lent, Named}
-use Rattle.checker.specs.Pass.{refusalAt, rowsRefusal, placeRefusal}
+use Rattle.checker.specs.Pass.{refusalAt, rowsRefusal}
 
--- What row r is refused for: by its place, for its names, as a double.
+-- All rows are entered.
+abbrev pub everyRow : ℕ → Bool
+everyRow r = true
+
+-- What row r is refused for: its faults, then its conflicts.
 module _ (table pool : List ℕ) (r : ℕ) (h : r < rowCount table) where
-  pub place-structure : badStructure (nodes table pool) r ≡ true → Checked.Refused (Refusal.Structure (record { 0 = r })) ≡ verdict (placeRefusal table pool r)
-  place-structure s = rw s
-
-  pub place-fields : badStructure (nodes table pool) r ≡ false → {drawn : Checked} → drawn ≡ verdict (fieldsRefusal (length pool) r (nodeAt table pool r)) → drawn ≡ verdict (placeRefusal table pool r)
-  place-fields s d = rw s (d ∙ ap verdict (first-alone (fieldsRefusal (length pool) r (nodeAt table pool r))))
-
-  abbrev structure : Option Refusal
-  structure = refusedIf (badStructure (nodes table pool) r) (Refusal.Structure (record { 0 = r }))
-
-  abbrev double : Option Refusal
-  double = firstRefusal (refusedIf (hasDouble table pool r) (Refusal.Double (record { 0 = r })) ∷ [])
-
-  parts : refusalAt table pool r ≡ firstRefusal (placeRefusal table pool r ∷ firstRefusal (namesRefusal r (nodeAt table pool r) ∷ double ∷ []) ∷ [])
-  unfolding rowRefusal faults conflicts
+  parts : refusalAt table pool r ≡ firstRefusal (faultRefusal table pool r ∷ conflictRefusal everyRow (nodes table pool) r ∷ [])
+  unfolding rowRefusal
   parts =
-      let n = node (nodes table pool) r in
-      let place : List (Option Refusal) = structure ∷ fieldsRefusal (length pool) r n ∷ [] in
-      let names : List (Option Refusal) =
-      encodingsRefusal r n ∷ refusedIf (badNames n) (Refusal.Names (record { 0 = r })) ∷ refusedIf (badNamespace n) (Refusal.Namespace (record { 0 = r }))
-      ∷ refusedIf (badDeclaration n) (Refusal.Declaration (record { 0 = r })) ∷ [] in
-      let last : List (Option Refusal) = refusedIf (hasDouble table pool r) (Refusal.Double (record { 0 = r })) ∷ [] in
-      first-append place (names ++ last)
-      ∙ ap (λ (rest : Option Refusal). firstRefusal (firstRefusal place ∷ rest ∷ [])) (first-append names last)
-      ∙ ap (λ (m : Node). firstRefusal (firstRefusal (structure ∷ fieldsRefusal (length pool) r m ∷ []) ∷ firstRefusal (namesRefusal r m ∷ double ∷ []) ∷ [])) (node-nodes table pool r h)
+      first-append (faults (nodes table pool) (length pool) r) (conflicts (nodes table pool) r)
+      ∙ ap (λ (o : Option Refusal). firstRefusal (faultRefusal table pool r ∷ o ∷ [])) (sym (conflicts-all table pool r h))
 
-  module _ {place : Checked} (p : place ≡ verdict (placeRefusal table pool r)) where
-    pub refused-place : (x : Refusal) → place ≡ Checked.Refused x → refusalAt table pool r ≡ some x
-    refused-place x e = let f = verdict-refused (placeRefusal table pool r) x (sym p ∙ e) in parts ∙ rw f
+  module _ {fault : Checked} (f : fault ≡ verdict (faultRefusal table pool r)) where
+    pub refused-fault : (x : Refusal) → fault ≡ Checked.Refused x → refusalAt table pool r ≡ some x
+    refused-fault x e = let first = verdict-refused (faultRefusal table pool r) x (sym f ∙ e) in parts ∙ rw first
 
-    module _ (a : place ≡ Checked.Accepted) where
-      no-place : placeRefusal table pool r ≡ none
-      no-place = verdict-accepted (placeRefusal table pool r) (sym p ∙ a)
+    module _ (a : fault ≡ Checked.Accepted) where
+      pub no-fault : faultRefusal table pool r ≡ none
+      no-fault = verdict-accepted (faultRefusal table pool r) (sym f ∙ a)
 
-      pub passed-fields : fieldsRefusal (length pool) r (nodeAt table pool r) ≡ none
-      passed-fields = all-none (structure ∷ fieldsRefusal (length pool) r (nodeAt table pool r) ∷ []) no-place .1 .0
+      module _ {conflict : Checked} (c : conflict ≡ verdict (conflictRefusal everyRow (nodes table pool) r)) where
+        alone : refusalAt table pool r ≡ conflictRefusal everyRow (nodes table pool) r
+        alone =
+            parts ∙ ap (λ (o : Option Refusal). firstRefusal (o ∷ conflictRefusal everyRow (nodes table pool) r ∷ [])) no-fault
+            ∙ sym (first-alone (conflictRefusal everyRow (nodes table pool) r))
 
-      pub parent-before : ParentBefore table r
-      parent-before =
-          rw (node-nodes table pool r h) at
-          (structure-falls (nodes table pool) r (not-refused _ _ (all-none (structure ∷ fieldsRefusal (length pool) r (nodeAt table pool r) ∷ []) no-place .0)))
+        pub refused-conflict : (x : Refusal) → conflict ≡ Checked.Refused x → refusalAt table pool r ≡ some x
+        refused-conflict x e = alone ∙ verdict-refused (conflictRefusal everyRow (nodes table pool) r) x (sym c ∙ e)
 
-      module _ {names : Checked} (n : names ≡ verdict (namesRefusal r (nodeAt table pool r))) where
-        pub refused-names : (x : Refusal) → names ≡ Checked.Refused x → refusalAt table pool r ≡ some x
-        refused-names x e = let f = verdict-refused (namesRefusal r (nodeAt table pool r)) x (sym n ∙ e) in parts ∙ rw (no-place, f)
-
-        module _ (b : names ≡ Checked.Accepted) where
-          no-names : namesRefusal r (nodeAt table pool r) ≡ none
-          no-names = verdict-accepted (namesRefusal r (nodeAt table pool r)) (sym n ∙ b)
-
-          pub refused-double : hasDouble table pool r ≡ true → refusalAt table pool r ≡ some (Refusal.Double (record { 0 = r }))
-          refused-double d = parts ∙ rw (no-place, no-names, d)
-
-          pub refused-none : hasDouble table pool r ≡ false → refusalAt table pool r ≡ none
-          refused-none d = parts ∙ rw (no-place, no-names, d)
+        pub refused-none : conflict ≡ Checked.Accepted → refusalAt table pool r ≡ none
+        refused-none e = alone ∙ verdict-accepted (conflictRefusal everyRow (nodes table pool) r) (sym c ∙ e)
 
 -- At row r: what the arrays hold, and that the rows from r on decide.
 pub record Going (table pool dictionary₀ notes₀ dictionary notes children chains : List ℕ) (r : ℕ) : Type 0 where
   pub bound : r ≤ rowCount table
   pub elements : Latest isElement table children r
-  pub owned : Entered table notes chains r
+  pub owned : Entered everyRow table notes chains r
   pub right : Dictionary dictionary pool
   pub few : lastOf dictionary ≤ 3 * r
   pub rows : (q : ℕ) → q < r → NodeNumbered notes (spelling dictionary pool) (lastOf dictionary) q (nodeAt table pool q)
@@ -120,7 +96,7 @@ going-start table pool dictionary notes e zero =
     record {
       bound = omega arith;
       elements = record { few = rows; size = length-replicate {A = ℕ} MOST-ROWS NONE; holds = λ p h. getD-replicate {A = ℕ} MOST-ROWS p NONE 0 (omega arith) };
-      owned = begun table notes (BUCKETS + MOST-ROWS + 1) rows (e .records) (omega arith);
+      owned = begun everyRow table notes (BUCKETS + MOST-ROWS + 1) rows (e .records) (omega arith);
       right = rw zero (cleared (length dictionary) pool (omega arith));
       few = rw zero (none-given (length dictionary));
       rows = λ q h. absurd (omega arith);
@@ -177,14 +153,14 @@ module _ {table pool dictionary₀ notes₀ dictionary notes children chains : L
       pub going-numbered : Numbered table pool noted (spelling after pool) (lastOf after) (r + 1)
       going-numbered = record { spelled = spelled (n .right); rows = going-rows }
 
-      pub going-owned : Entered table noted chains r
+      pub going-owned : Entered everyRow table noted chains r
       going-owned = renumbered (g .owned) noted l same-notes
 
       pub going-kept : (q k : ℕ) → LATEST ≤ k → k < NOTES → noteAt noted q k ≡ noteAt notes₀ q k
       going-kept q k i j = n .others q k j (λ e m. omega arith) ∙ g .kept q k i j
 
       pub going-next :
-          {children′ chains′ : List ℕ} → Latest isElement table children′ (r + 1) → Entered table noted chains′ (r + 1) → refusalAt table pool r ≡ none → length after ≡ length dictionary → length chains′ ≡ length chains
+          {children′ chains′ : List ℕ} → Latest isElement table children′ (r + 1) → Entered everyRow table noted chains′ (r + 1) → refusalAt table pool r ≡ none → length after ≡ length dictionary → length chains′ ≡ length chains
           → Going table pool dictionary₀ notes₀ after noted children′ chains′ (r + 1)
       going-next elements owned passed words links =
           let few = g .few in
@@ -202,10 +178,6 @@ module _ {table pool dictionary₀ notes₀ dictionary notes children chains : L
             records = l ∙ g .records;
             links = links ∙ g .links;
           }
-
--- What is refused is not accepted.
-pub not-accepted : {A : Type 0} {drawn : Checked} (x : Refusal) → drawn ≡ Checked.Refused x → drawn ≡ Checked.Accepted → A
-not-accepted x e a = let both : true ≡ false = cc in absurd (true-not-false refl both)
 
 -- The whole check.
 module _ (table pool : List ℕ) where

@@ -6,7 +6,7 @@ use lib.ListN.{length, replicate}
 use Rattle.rules.specs.Table.{MOST-ROWS, rowCount}
 use Rattle.notes.specs.Notes.{NOTES}
 use Rattle.numbers.specs.Noted.{Numbered}
-use Rattle.dictionary.specs.Entries.{NAMES, WIDTH}
+use Rattle.entries.specs.Entries.{NAMES, WIDTH}
 use Rattle.dictionary.specs.Dictionary.{PLACES, lastOf, spelling, Dictionary}
 
 -- The rows of a small table.

@@ -3,14 +3,12 @@
 ghost use mathlib.Core.Path.{_≡_};
 ghost use Prim.Native.Nat.{ℕ, _≤_, _<_};
 ghost use lib.ListN.{length};
-ghost use Rattle.rules.specs.Table.{MOST-ROWS, MOST-BYTES, rowCount, isElement};
+ghost use Rattle.rules.specs.Table.{MOST-ROWS, MOST-BYTES, rowCount};
 ghost use Rattle.rules.specs.Refusals.{badSize, verdict, checked};
 ghost use Rattle.rules.specs.declared.Checked.{Checked};
 ghost use Rattle.notes.specs.Notes.{NOTES, LATEST, noteAt};
-ghost use Rattle.tree.specs.Children.{Latest};
 ghost use Rattle.checker.specs.Lent.{FEW-ROWS, Lent, Named};
-ghost use Rattle.checker.specs.Pass.{rowsRefusal, placeRefusal};
-use fields::field;
+ghost use Rattle.checker.specs.Pass.{rowsRefusal};
 use rules::Checked;
 use rules::Refusal;
 use rules::Row;
@@ -57,7 +55,7 @@ pub fn check_numbered(
 }
 
 // The check in arrays for a small table.
-fn check_small(table: &[u32], pool: &[u8]) -> Checked
+pub fn check_small(table: &[u32], pool: &[u8]) -> Checked
     requires { ⌜ rowCount (now table) ≤ FEW-ROWS ⌝ }
     ensures { λ r. ⌜ r ≡ checked (now (table .entry)) (now (pool .entry)) ⌝ }
 {
@@ -84,8 +82,8 @@ fn bad_size(table: &[u32], pool: &[u8]) -> bool
         | (pool.len() > rules::MOST_BYTES)
 }
 
-// Refusals 2 to 7 and 12 to 14, rows ascending. The names of a row get their numbers when its fields
-// are known to lie in the pool.
+// Refusals 2 to 7 and 12 to 14, rows ascending: of each row its faults, and then its conflicts with the
+// rows before it.
 fn check_rows(table: &[u32], pool: &[u8], dictionary: &mut [u16], notes: &mut [u16]) -> Checked
     requires { ⌜ (rowCount (now table) ≤ MOST-ROWS) × (length (now pool) ≤ MOST-BYTES) ⌝ }
     requires { ⌜ Lent (now table) (now dictionary) (now notes) ⌝ }
@@ -94,36 +92,30 @@ fn check_rows(table: &[u32], pool: &[u8], dictionary: &mut [u16], notes: &mut [u
     ensures { λ _. ⌜ ((q k : ℕ) → LATEST ≤ k → k < NOTES → noteAt (now (notes .exit)) q k ≡ noteAt (now (notes .entry)) q k) ⌝ }
 {
     let ascii = utf8::is_ascii(pool);
+    let allowed = structure::allowed_parents();
     let mut children = [rules::NONE; rules::MOST_ROWS];
     let mut chains = [0; doubles::WORDS];
     let mut r: u32 = 0;
     while rows::has_row(table, Row(r)) {
-        let place = check_place(table, pool, &children, Row(r));
-        let Checked::Accepted = place else {
-            return place;
+        let fault = faults::check(
+            table,
+            pool,
+            ascii,
+            &allowed,
+            &children,
+            dictionary,
+            notes,
+            Row(r),
+        );
+        let Checked::Accepted = fault else {
+            return fault;
         };
-        let kinds = row_names::number(table, pool, dictionary, notes, Row(r));
-        let names = row_names::check(table, pool, ascii, kinds, Row(r));
-        let Checked::Accepted = names else {
-            return names;
+        let conflict = conflicts::check(table, dictionary, notes, &mut chains, Row(r));
+        let Checked::Accepted = conflict else {
+            return conflict;
         };
-        if doubles::add(table, notes, &mut chains, Row(r)) {
-            return Checked::Refused(Refusal::Double(Row(r)));
-        }
         structure::add(table, &mut children, Row(r));
         r += 1;
     }
     Checked::Accepted
-}
-
-// The refusal that a row draws before its names are read: 2, then 3, 12 and 13.
-fn check_place(table: &[u32], pool: &[u8], children: &[u32], row: Row) -> Checked
-    requires { ⌜ row .0 < rowCount (now table) ⌝ }
-    requires { ⌜ Latest isElement (now table) (now children) (row .0) ⌝ }
-    ensures { λ r. ⌜ r ≡ verdict (placeRefusal (now (table .entry)) (now (pool .entry)) (row .0)) ⌝ }
-{
-    if structure::bad(table, children, row) {
-        return Checked::Refused(Refusal::Structure(row));
-    }
-    field::check(table, pool, row)
 }

@@ -7,16 +7,16 @@ use mathlib.Core.List.{List}
 use native.Mathlib.Omega.{arith}
 use borrow.Author.Tests.{eqb-true, ne-eqb, leb-true, le-leb}
 use lib.Dec.{eqb, leb}
-use Rattle.rules.specs.Table.{VALUE, ELEMENT, ATTRIBUTE, TEXT, DECLARATION, Node}
+use Rattle.rules.specs.Table.{VALUE, ELEMENT, ATTRIBUTE, TEXT, Node}
 use Rattle.rules.specs.Utf8.{wellFormed}
 use Rattle.rules.specs.Refusals.{verdict}
 use Rattle.rules.specs.declared.Refusal.{Refusal}
 use Rattle.rules.specs.declared.Checked.{Checked}
-use Rattle.rules.proofs.Lists.{true-not-false, both-true, true-both}
-use Rattle.dictionary.specs.Kinds.{EMPTY, GOOD, OTHER, kindOf}
+use Rattle.rules.proofs.Lists.{both-true, true-both}
+use Rattle.kinds.specs.Kinds.{EMPTY, GOOD, OTHER, kindOf}
 use Rattle.row_names.specs.declared.Kinds.{Kinds}
 use Rattle.row_names.specs.RowNames.{kindsOf, namesRefusal, GoodNames}
-use Rattle.row_names.proofs.Tests.{is-well-formed, encoding-value, encoding-passed, kind-prefix, kind-local, kind-uri, names-good, namespace-other, namespace-good, declaration-other, refused-encoding, passed-encoding, refused-none}
+use Rattle.row_names.proofs.Tests.{is-well-formed, encoding-value, encoding-passed, kind-prefix, kind-local, kind-uri, names-good, namespace-other, namespace-good, refused-encoding, passed-encoding, refused-none}
 
 -- Of a row of good names only the value can draw a refusal.
 module _ (r : ℕ) (n : Node) (g : GoodNames n) {bad : Bool} (b : bad ≡ not (wellFormed (n .value .bytes))) where
@@ -26,7 +26,7 @@ module _ (r : ℕ) (n : Node) (g : GoodNames n) {bad : Bool} (b : bad ≡ not (w
   pub good-passed : bad ≡ false → Checked.Accepted ≡ verdict (namesRefusal r n)
   good-passed e =
       let d = encoding-passed r n (g .prefix) (g .local) (g .uri) b e in
-      refused-none r n d refl (g .names r (passed-encoding r n d refl)) (g .namespace) (g .declaration)
+      refused-none r n d refl (g .names r (passed-encoding r n d refl)) (g .namespace)
 
 module _ (n : Node) {kind : ℕ} (t : kind ≡ n .type) {kinds : Kinds} (k : kinds ≡ kindsOf n) where
   -- A kind below the last is that of a well-formed name.
@@ -45,7 +45,6 @@ module _ (n : Node) {kind : ℕ} (t : kind ≡ n .type) {kinds : Kinds} (k : kin
         uri = formed (n .uri .bytes) (kind-uri n k) (leb-true (kinds .uri) OTHER (a .1));
         names = λ r w. sym (names-good n t k (a .0) r w refl) ∙ rw x refl;
         namespace = sym (namespace-other n t k (rw x refl));
-        declaration = sym (declaration-other n t k (λ d. omega arith));
       }
 
   pub good-named :
@@ -65,8 +64,4 @@ module _ (n : Node) {kind : ℕ} (t : kind ≡ n .type) {kinds : Kinds} (k : kin
         uri = formed (n .uri .bytes) (kind-uri n k) other;
         names = λ r w. sym (names-good n t k (true-both (b .1) (le-leb (kinds .local) GOOD (omega arith))) r w refl) ∙ rw (some, and-false) refl;
         namespace = sym (namespace-good n t k is e);
-        declaration = sym (declaration-other n t k (λ d. no-declaration d is));
       }
-    where
-      no-declaration : kind ≡ DECLARATION → (not (eqb kind ELEMENT) && not (eqb kind ATTRIBUTE)) ≡ false → ⊥
-      no-declaration d is = (let f = rw d at is in true-not-false refl f)

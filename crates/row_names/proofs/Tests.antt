@@ -20,8 +20,8 @@ use Rattle.rules.proofs.Utf8.{ascii-well-formed}
 use Rattle.rules.proofs.Accepted.{fields-encoded}
 use Rattle.rules.proofs.Refusals.{verdict-accepted, verdict-refused}
 use Rattle.numbers.specs.Noted.{declaredUri}
-use Rattle.dictionary.specs.Kinds.{EMPTY, GOOD, XML, XMLNS, GOOD-WITH-COLONS, OTHER, XML-URI, XMLNS-URI, MALFORMED, kindOf}
-use Rattle.dictionary.proofs.NameKinds.{kind-empty, kind-xml, kind-xmlns, kind-xml-uri, kind-xmlns-uri, kind-malformed, kind-good, kind-good-with-colons}
+use Rattle.kinds.specs.Kinds.{EMPTY, GOOD, XML, XMLNS, GOOD-WITH-COLONS, OTHER, XML-URI, XMLNS-URI, MALFORMED, kindOf}
+use Rattle.kinds.proofs.NameKinds.{kind-empty, kind-xml, kind-xmlns, kind-xml-uri, kind-xmlns-uri, kind-malformed, kind-good, kind-good-with-colons}
 use Rattle.row_names.specs.declared.Kinds.{Kinds}
 use Rattle.row_names.specs.RowNames.{kindsOf, namesRefusal}
 
@@ -175,21 +175,13 @@ module _ (n : Node) {kind : ℕ} (t : kind ≡ n .type) {kinds : Kinds} (k : kin
         (λ z. let some = eqb-false (kinds .prefix) EMPTY z in rw z (ne-eqb (kinds .uri) EMPTY (λ x. omega arith))) in
         sym (rw (both, uri-xmlns, prefix-xmlns, prefix-xml, uri-xml, not-xmlns) (simp and-false)) ∙ namespace-tested
 
-  -- 6
-  pub declaration-other : (kind ≡ DECLARATION → ⊥) → false ≡ badDeclaration n
-  unfolding badDeclaration
-  declaration-other d = rw (← t, ne-eqb kind DECLARATION d)
-
-  pub declaration-tested :
-      kind ≡ DECLARATION
-      → (eqb (kinds .local) XMLNS || eqb (kinds .local) XML && not (eqb (kinds .value) XML-URI) || not (eqb (kinds .local) XML) && eqb (kinds .value) XML-URI || eqb (kinds .value) XMLNS-URI
-      || not (eqb (kinds .local) EMPTY) && eqb (kinds .value) EMPTY)
-      ≡ badDeclaration n
-  unfolding badDeclaration
-  declaration-tested d =
-      let is = eq-eqb (n .type) DECLARATION (sym t ∙ d) in
-      let v : kinds .value ≡ kindOf (n .value .bytes) = kind-value n k ∙ rw is in
-      rw (is, v, kind-local n k, kind-empty (n .local .bytes), kind-empty (n .value .bytes), kind-xml (n .local .bytes), kind-xmlns (n .local .bytes), kind-xml-uri (n .value .bytes), kind-xmlns-uri (n .value .bytes))
+-- 6
+pub declaration-tested :
+    (n : Node) → n .type ≡ DECLARATION → {local value : ℕ} → local ≡ kindOf (n .local .bytes) → value ≡ kindOf (n .value .bytes)
+    → (eqb local XMLNS || eqb local XML && not (eqb value XML-URI) || not (eqb local XML) && eqb value XML-URI || eqb value XMLNS-URI || not (eqb local EMPTY) && eqb value EMPTY) ≡ badDeclaration n
+unfolding badDeclaration
+declaration-tested n d l v =
+    rw (eq-eqb (n .type) DECLARATION d, v, l, kind-empty (n .local .bytes), kind-empty (n .value .bytes), kind-xml (n .local .bytes), kind-xmlns (n .local .bytes), kind-xml-uri (n .value .bytes), kind-xmlns-uri (n .value .bytes))
 
 -- What a row draws for its names, one after the other.
 module _ (r : ℕ) (n : Node) {drawn : Checked} (d : drawn ≡ verdict (encodingsRefusal r n)) where
@@ -207,9 +199,5 @@ module _ (r : ℕ) (n : Node) {drawn : Checked} (d : drawn ≡ verdict (encoding
       pub refused-namespace : badNamespace n ≡ true → Checked.Refused (Refusal.Namespace (record { 0 = r })) ≡ verdict (namesRefusal r n)
       refused-namespace s = rw (passed-encoding, b, s)
 
-      module _ (s : badNamespace n ≡ false) where
-        pub refused-declaration : badDeclaration n ≡ true → Checked.Refused (Refusal.Declaration (record { 0 = r })) ≡ verdict (namesRefusal r n)
-        refused-declaration e = rw (passed-encoding, b, s, e)
-
-        pub refused-none : badDeclaration n ≡ false → Checked.Accepted ≡ verdict (namesRefusal r n)
-        refused-none e = rw (passed-encoding, b, s, e)
+      pub refused-none : badNamespace n ≡ false → Checked.Accepted ≡ verdict (namesRefusal r n)
+      refused-none s = rw (passed-encoding, b, s)

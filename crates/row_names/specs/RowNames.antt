@@ -1,20 +1,15 @@
--- The names of a row: what they are, what it is refused for them, and that they have their numbers.
-use Prim.Native.Nat.{ℕ, _+_, _*_, _≤_, _<_}
+-- The names of a row: what they are, and what it is refused for them.
+use Prim.Native.Nat.{ℕ}
 use mathlib.Core.Path.{_≡_}
-use mathlib.Core.List.{List, [], _∷_}
+use mathlib.Core.List.{[], _∷_}
 use mathlib.Core.Bool.{true, false}
 use mathlib.Core.Option.{Option, none}
-use lib.ListN.{length}
-use Rattle.rules.specs.Table.{MOST-BYTES, Node, fieldAt}
+use Rattle.rules.specs.Table.{Node}
 use Rattle.rules.specs.Utf8.{wellFormed}
-use Rattle.rules.specs.Refusals.{refusedIf, firstRefusal, encodingsRefusal, badNames, badNamespace, badDeclaration}
+use Rattle.rules.specs.Refusals.{refusedIf, firstRefusal, encodingsRefusal, badNames, badNamespace}
 use Rattle.rules.specs.declared.Refusal.{Refusal}
-use Rattle.notes.specs.Notes.{NOTES, noteAt, noted}
-use Rattle.numbers.specs.Numbers.{Names}
-use Rattle.numbers.specs.Noted.{declaredUri, NodeNumbered}
-use Rattle.dictionary.specs.Kinds.{kindOf}
-use Rattle.dictionary.specs.Entries.{NAMES, WIDTH}
-use Rattle.dictionary.specs.Dictionary.{PLACES, lastOf, spelling, Dictionary}
+use Rattle.numbers.specs.Noted.{declaredUri}
+use Rattle.kinds.specs.Kinds.{kindOf}
 use Rattle.row_names.specs.declared.Kinds.{Kinds}
 
 -- what the names of a row are
@@ -27,48 +22,19 @@ kindsOf n =
       value = kindOf (declaredUri n);
     }
 
--- what row r is refused for its names: 14, 4, 5, 6
+-- what row r is refused for its names: 14, 4, 5
 abbrev pub namesRefusal : ℕ → Node → Option Refusal
 namesRefusal r n =
     firstRefusal
     (encodingsRefusal r n
     ∷ refusedIf (badNames n) (Refusal.Names (record { 0 = r }))
     ∷ refusedIf (badNamespace n) (Refusal.Namespace (record { 0 = r }))
-    ∷ refusedIf (badDeclaration n) (Refusal.Declaration (record { 0 = r }))
     ∷ [])
 
--- The names of a row draw none of 14 and 4 to 6.
+-- The names of a row draw none of 14, 4 and 5.
 pub record GoodNames (n : Node) : Type 0 where
   pub prefix : wellFormed (n .prefix .bytes) ≡ true
   pub local : wellFormed (n .local .bytes) ≡ true
   pub uri : wellFormed (n .uri .bytes) ≡ true
   pub names : (r : ℕ) → encodingsRefusal r n ≡ none → badNames n ≡ false
   pub namespace : badNamespace n ≡ false
-  pub declaration : badDeclaration n ≡ false
-
--- There is room for so many more numbers.
-pub record HasRoom (dictionary : List ℕ) (more : ℕ) : Type 0 where
-  pub words : PLACES + NAMES + WIDTH * (lastOf dictionary + more + 1) ≤ length dictionary
-  pub small : lastOf dictionary + more ≤ 65535
-
--- The field lies in a pool that is not too long.
-pub record Inside (table pool : List ℕ) (r field : ℕ) : Type 0 where
-  pub small : length pool ≤ MOST-BYTES
-  pub within : fieldAt table pool r field .offset + fieldAt table pool r field .size ≤ length pool
-
--- The bytes have got their number, which is noted as word k of row r; what had a number keeps it, and there are up to so many
--- numbers more.
-pub record FieldNumbered (before notes after noted′ pool : List ℕ) (r k : ℕ) (bytes : List ℕ) (more : ℕ) : Type 0 where
-  pub right : Dictionary after pool
-  pub names : Names (spelling after pool) (lastOf after) (noteAt noted′ r k) bytes
-  pub kept : (m : ℕ) (other : List ℕ) → Names (spelling before pool) (lastOf before) m other → Names (spelling after pool) (lastOf after) m other
-  pub few : lastOf after ≤ lastOf before + more
-  pub wrote : noted′ ≡ noted notes r k (noteAt noted′ r k)
-
--- All names of a row have got their numbers.
-pub record RowNumbered (before notes after noted′ pool : List ℕ) (r : ℕ) (n : Node) : Type 0 where
-  pub right : Dictionary after pool
-  pub numbered : NodeNumbered noted′ (spelling after pool) (lastOf after) r n
-  pub kept : (m : ℕ) (other : List ℕ) → Names (spelling before pool) (lastOf before) m other → Names (spelling after pool) (lastOf after) m other
-  pub few : lastOf after ≤ lastOf before + 3
-  pub others : (q j : ℕ) → j < NOTES → (q ≡ r → j < 4 → ⊥) → noteAt noted′ q j ≡ noteAt notes q j

@@ -10,7 +10,7 @@ ghost use Rattle.rules.specs.declared.Refusal.{Refusal};
 ghost use Rattle.rules.specs.declared.Checked.{Checked};
 ghost use Rattle.row_names.specs.RowNames.{kindsOf};
 use crate::Kinds;
-use dictionary::MALFORMED;
+use kinds::MALFORMED;
 use rules::Checked;
 use rules::Refusal;
 use rules::Row;

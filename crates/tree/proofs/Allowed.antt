@@ -11,7 +11,7 @@ use borrow.Author.Tests.{le-leb, lt-leb, ne-eqb, leb-true, leb-false, eqb-true, 
 use lib.Dec.{eqb, leb}
 use lib.ListN.{getD}
 use Rattle.rules.specs.Lists.{anyOf, allOf, numbersFrom, isOneOf}
-use Rattle.rules.specs.Table.{ELEMENT, ATTRIBUTE, TEXT, DECLARATION, LEVEL1-ELEMENT, LEVEL1-ATTRIBUTE, ParentRule, allowedParents}
+use Rattle.rules.specs.Table.{ELEMENT, ATTRIBUTE, DECLARATION, LEVEL1-ELEMENT, LEVEL1-ATTRIBUTE, ParentRule, allowedParents}
 use Rattle.rules.specs.Refusals.{parentRule}
 use Rattle.rules.proofs.Lists.{by-cases, both-true, true-not-false, firstThat-none, allOf-getD, allOf-firstThat, getD-numbersFrom, length-numbersFrom}
 use Rattle.tree.specs.Parents.{NOTHING, lineOf, ruleAllows, bit, Right}
@@ -111,18 +111,3 @@ unfolding ruleAllows
 allowed-under kind type rule q =
     let n : lineOf type ≡ NOTHING → ⊥ = λ e. omega (arith, line-bound type) in
     rw (ne-eqb (lineOf type) NOTHING n) (parents-line (rule .parents) type (rule-plain kind q))
-
--- An element, an attribute and a text may stand under an element.
-pub usual : (kind above : ℕ) → (eqb above ELEMENT && (eqb kind ELEMENT || eqb kind ATTRIBUTE || eqb kind TEXT)) ≡ true → (above ≡ ELEMENT) × (ruleAllows (parentRule kind) (lineOf above) ≡ true)
-unfolding ruleAllows parentRule lineOf
-usual kind above e =
-    let b = both-true (eqb above ELEMENT) (eqb kind ELEMENT || eqb kind ATTRIBUTE || eqb kind TEXT) e in
-    let a = eqb-true above ELEMENT (b .0) in (
-      a,
-      by-cases (eqb kind ELEMENT)
-          (λ x. rw (a, eqb-true kind ELEMENT x) refl)
-          (λ x.
-          by-cases (eqb kind ATTRIBUTE)
-          (λ y. rw (a, eqb-true kind ATTRIBUTE y) refl)
-          (λ y. rw (a, eqb-true kind TEXT (rw (x, y) at (b .1))) refl)),
-    )

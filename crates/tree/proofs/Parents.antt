@@ -74,6 +74,10 @@ module _ (table pool : List ℕ) (r : ℕ) (h : r < rowCount table) {kind parent
           f ∙ ap (λ (type : ℕ). ruleAllows (parentRule kind) (lineOf type)) there ∙ early (nodes table pool) r parent n l kind (parentRule kind) refl
 
       module _ {a : Bool} (f : a ≡ ruleAllows (parentRule kind) (lineOf above)) where
+        -- The table alone decides.
+        pub structure-told : (above ≡ DOCUMENT → ⊥) → not a ≡ badStructure (nodes table pool) r
+        structure-told d = sym (or-false (not a)) ∙ structure (allowed f) (second-elsewhere d)
+
         pub structure-refused : a ≡ false → true ≡ badStructure (nodes table pool) r
         structure-refused e = structure (sym e ∙ allowed f) refl
 

@@ -1,9 +1,8 @@
 // Refusal 2: an unknown type, a parent that is not allowed, or a document's second element.
 ghost use mathlib.Core.Path.{_≡_};
-ghost use mathlib.Core.Bool.{true};
 ghost use mathlib.Core.List.{List};
 ghost use Prim.Native.Nat.{ℕ, _+_, _≤_, _<_};
-ghost use Rattle.rules.specs.Table.{ELEMENT, rowCount, nodes, isElement};
+ghost use Rattle.rules.specs.Table.{rowCount, nodes, isElement};
 ghost use Rattle.rules.specs.Refusals.{parentRule, badStructure};
 ghost use Rattle.tree.specs.Parents.{NOTHING, lineOf, ruleAllows, Right};
 ghost use Rattle.tree.specs.Children.{Latest, ParentBefore};
@@ -45,25 +44,34 @@ const ALLOWED: [u16; 14] = [
     ELEMENT,
 ];
 
-// The row draws the refusal.
-pub fn bad(table: &[u32], children: &[u32], row: Row) -> bool
+// The table of the allowed parents. Whoever goes through rows makes it once, and lends it.
+pub fn allowed_parents() -> [u16; 14]
+    ensures { λ r. ⌜ Right r ⌝ }
+{
+    ALLOWED
+}
+
+// The row draws the refusal. The table is asked of every row; under a parent that comes before the
+// documents in it, as most are, it alone decides.
+pub fn bad(table: &[u32], allowed: &[u16], children: &[u32], row: Row) -> bool
     requires { ⌜ row .0 < rowCount (now table) ⌝ }
+    requires { ⌜ Right (now allowed) ⌝ }
     requires { ⌜ Latest isElement (now table) (now children) (row .0) ⌝ }
     ensures { λ r. ⌜ ((pool : List ℕ) → r ≡ badStructure (nodes (now (table .entry)) pool) (row .0)) ⌝ }
 {
     let kind = rows::kind(table, row);
     let parent = rows::parent(table, row);
     if parent.0 == rules::NONE {
-        return !allows(kind, NOTHING);
+        return !allows(allowed, kind, NOTHING);
     }
     if parent.0 >= row.0 {
         return true;
     }
     let above = rows::kind(table, parent);
-    if is_usual(kind, above) {
-        return false;
+    if (kind <= rules::DECLARATION) & (above < rules::DOCUMENT) {
+        return !has_bit(allowed, kind, above);
     }
-    if !allows(kind, line(above)) {
+    if !allows(allowed, kind, line(above)) {
         return true;
     }
     if above != rules::DOCUMENT {
@@ -88,20 +96,13 @@ pub fn add(table: &[u32], children: &mut [u32], row: Row)
     }
 }
 
-// An element, an attribute or a text under an element, as most rows are, stands where it may.
-fn is_usual(kind: u32, above: u32) -> bool
-    ensures { λ r. ⌜ (r ≡ true → (above ≡ ELEMENT) × (ruleAllows (parentRule kind) (lineOf above) ≡ true)) ⌝ }
-{
-    (above == rules::ELEMENT)
-        & ((kind == rules::ELEMENT) | (kind == rules::ATTRIBUTE) | (kind == rules::TEXT))
-}
-
 // A row of this type may stand under a row of the line above, or under nothing.
-fn allows(kind: u32, above: u32) -> bool
+fn allows(allowed: &[u16], kind: u32, above: u32) -> bool
+    requires { ⌜ Right (now allowed) ⌝ }
     requires { ⌜ above ≤ NOTHING ⌝ }
     ensures { λ r. ⌜ r ≡ ruleAllows (parentRule kind) above ⌝ }
 {
-    has_bit(&ALLOWED, line(kind), above)
+    has_bit(allowed, line(kind), above)
 }
 
 // The line of the table has the bit.

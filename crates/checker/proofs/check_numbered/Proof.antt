@@ -3,7 +3,8 @@
 use mathlib.Core.Path.{refl, sym, _∙_}
 use denote.Ref.{now}
 use Rattle.rules.proofs.Accepted.{sized, few-rows}
-use Rattle.checker.proofs.Pass.{check-size, check-all, not-accepted}
+use Rattle.checker.proofs.Pass.{check-size, check-all}
+use Rattle.faults.proofs.Laws.{not-accepted}
 use borrow.Author.Needs.{needs}
 use Rattle.checker.proofs.check_numbered.Statement.{statement}
 use Rattle.checker.proofs.check_numbered.Tie as tie

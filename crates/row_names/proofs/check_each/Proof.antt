@@ -4,7 +4,7 @@ use mathlib.Core.Path.{_≡_, sym, _∙_}
 use denote.Ref.{now}
 use Rattle.rules.specs.Table.{Node, nodeAt}
 use Rattle.rules.specs.Refusals.{badNames, badNamespace}
-use Rattle.row_names.proofs.Tests.{refused-encoding, passed-encoding, refused-names, refused-namespace, refused-declaration, refused-none}
+use Rattle.row_names.proofs.Tests.{refused-encoding, passed-encoding, refused-names, refused-namespace, refused-none}
 use borrow.Author.Needs.{needs}
 use Rattle.row_names.proofs.check_each.Statement.{statement}
 use Rattle.row_names.proofs.check_each.Tie as tie
@@ -71,34 +71,15 @@ returns-3 c =
     let s = start b in
     refused-namespace (s .args .row .0) (node s) (d .check .ensures) (e .enum-told .given .1) (sym (bad-names b) ∙ i .if1 .left) (sym (bad-namespace b2) ∙ c .if2 .taken)
 
-bad-requires-3 : tie.Need-bad-requires-3
-bad-requires-3 c κs = search needs
-
 returns-4 : tie.Need-returns-4
 returns-4 c =
-    let b3 = c .before in
-    let j = b3 .before in
-    let b2 = j .before in
+    let b2 = c .before in
     let i = b2 .before in
     let b = i .before in
     let e = b .before in
     let d = e .before .before in
     let s = start b in
-    refused-declaration (s .args .row .0) (node s) (d .check .ensures) (e .enum-told .given .1) (sym (bad-names b) ∙ i .if1 .left) (sym (bad-namespace b2) ∙ j .if2 .left)
-    (sym (b3 .bad3 .ensures (node s) (d .before .kind .ensures) (s .pre .1 .1)) ∙ c .if3 .taken)
-
-returns-5 : tie.Need-returns-5
-returns-5 c =
-    let b3 = c .before in
-    let j = b3 .before in
-    let b2 = j .before in
-    let i = b2 .before in
-    let b = i .before in
-    let e = b .before in
-    let d = e .before .before in
-    let s = start b in
-    refused-none (s .args .row .0) (node s) (d .check .ensures) (e .enum-told .given .1) (sym (bad-names b) ∙ i .if1 .left) (sym (bad-namespace b2) ∙ j .if2 .left)
-    (sym (b3 .bad3 .ensures (node s) (d .before .kind .ensures) (s .pre .1 .1)) ∙ c .if3 .left)
+    refused-none (s .args .row .0) (node s) (d .check .ensures) (e .enum-told .given .1) (sym (bad-names b) ∙ i .if1 .left) (sym (bad-namespace b2) ∙ c .if2 .left)
 
 pub check-each-spec : {M : Type 1} → statement M
 check-each-spec =
@@ -113,6 +94,4 @@ check-each-spec =
     returns-2
     bad-requires-2
     returns-3
-    bad-requires-3
-    returns-4
-    returns-5)
+    returns-4)

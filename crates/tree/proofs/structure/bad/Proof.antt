@@ -1,13 +1,17 @@
 -- `structure::bad` meets its contract.
 -- Assumes nothing.
-use mathlib.Core.Path.{refl, ap, _∙_}
+use Prim.Native.Nat.{_≤_, _<_}
+use mathlib.Core.Path.{sym, ap, _∙_}
 use native.Mathlib.Omega.{arith}
-use borrow.Author.Tests.{not-true, not-false}
+use borrow.Author.Tests.{not-true, not-false, leb-true, ltb-true}
+use lib.Dec.{leb, ltb}
 use denote.Ref.{now}
+use Rattle.rules.specs.Table.{DOCUMENT, DECLARATION}
 use Rattle.rules.specs.Refusals.{parentRule}
+use Rattle.rules.proofs.Lists.{both-true}
 use Rattle.tree.specs.Parents.{ruleAllows}
-use Rattle.tree.proofs.Allowed.{line-bound}
-use Rattle.tree.proofs.Parents.{structure-alone, structure-late, structure-refused, structure-elsewhere, structure-second}
+use Rattle.tree.proofs.Allowed.{line-low, line-bound}
+use Rattle.tree.proofs.Parents.{structure-alone, structure-late, structure-told, structure-refused, structure-elsewhere, structure-second}
 use borrow.Author.Needs.{needs}
 use Rattle.tree.proofs.structure.bad.Statement.{statement}
 use Rattle.tree.proofs.structure.bad.Tie as tie
@@ -26,50 +30,64 @@ returns c =
     let i = c .before in
     let p = i .before .before in
     let k = p .before in
-    let s = k .before .before .before in
-    λ pool. structure-alone (now (s .args .table)) pool (s .args .row .0) (s .pre .0) (k .kind .ensures) (p .parent .ensures) (s .pre .1 .few) (i .if1 .taken) (c .allows .ensures)
+    let s = k .before .before .before .before in
+    λ pool. structure-alone (now (s .args .table)) pool (s .args .row .0) (s .pre .0) (k .kind .ensures) (p .parent .ensures) (s .pre .1 .1 .few) (i .if1 .taken) (c .allows .ensures)
 
 returns-2 : tie.Need-returns-2
 returns-2 c =
     let i = c .before .before .before in
     let p = i .before .before in
     let k = p .before in
-    let s = k .before .before .before in
+    let s = k .before .before .before .before in
     λ pool. structure-late (now (s .args .table)) pool (s .args .row .0) (s .pre .0) (k .kind .ensures) (p .parent .ensures) (i .if1 .left) (omega arith)
 
 kind-requires-2 : tie.Need-kind-requires-2
 kind-requires-2 c κs = search needs
 
-is-usual-requires : tie.Need-is-usual-requires
-is-usual-requires c κs = search needs
+-- Where both types are low: they are their own lines.
+low : (c : tie.Then3) → (c .before .before .before .before .before .before .before .before .kind .result ≤ DECLARATION) × (c .before .kind2 .result < DOCUMENT)
+low c =
+    let kind = c .before .before .before .before .before .before .before .before .kind .result in
+    let above = c .before .kind2 .result in
+    let both = both-true (leb kind DECLARATION) (ltb above DOCUMENT) (c .if3 .taken) in
+    (leb-true kind DECLARATION (both .0), ltb-true above DOCUMENT (both .1))
+
+has-bit-requires : tie.Need-has-bit-requires
+has-bit-requires c κs =
+    let s = c .before .before .before .before .before .before .before .before .before .before .before .before in
+    (s .pre .1 .0, (omega (arith, low c .0), omega (arith, low c .1)))
 
 returns-3 : tie.Need-returns-3
 returns-3 c =
-    let u = c .before in
-    let t = u .before in
+    let j = c .before in
+    let t = j .before in
     let i = t .before .before .before .before in
     let p = i .before .before in
     let k = p .before in
-    let s = k .before .before .before in
-    let is = u .is-usual .ensures (c .if3 .taken) in
+    let s = k .before .before .before .before in
+    let above = t .kind2 .result in
     λ pool.
-    structure-elsewhere (now (s .args .table)) pool (s .args .row .0) (s .pre .0) (k .kind .ensures) (p .parent .ensures) (i .if1 .left) (omega arith) (t .kind2 .ensures) refl (is .1) (λ e. omega (arith, is .0))
+    structure-told (now (s .args .table)) pool (s .args .row .0) (s .pre .0) (k .kind .ensures) (p .parent .ensures) (i .if1 .left) (omega arith) (t .kind2 .ensures)
+    (c .has-bit .ensures ∙ ap (ruleAllows (parentRule (k .kind .result))) (sym (line-low above (omega (arith, low j .1))))) (λ e. omega (arith, low j .1))
 
 line-requires : tie.Need-line-requires
 line-requires c κs = search needs
 
 allows-requires-2 : tie.Need-allows-requires-2
-allows-requires-2 c κs = omega (arith, c .line .ensures, line-bound (c .before .before .before .kind2 .result))
+allows-requires-2 c κs =
+    let t = c .before .before in
+    let s = t .before .before .before .before .before .before .before .before .before .before .before in
+    (s .pre .1 .0, omega (arith, c .line .ensures, line-bound (t .kind2 .result)))
 
 returns-4 : tie.Need-returns-4
 returns-4 c =
     let a = c .before in
     let l = a .before in
-    let t = l .before .before .before in
+    let t = l .before .before in
     let i = t .before .before .before .before in
     let p = i .before .before in
     let k = p .before in
-    let s = k .before .before .before in
+    let s = k .before .before .before .before in
     λ pool.
     structure-refused (now (s .args .table)) pool (s .args .row .0) (s .pre .0) (k .kind .ensures) (p .parent .ensures) (i .if1 .left) (omega arith) (t .kind2 .ensures)
     (a .allows2 .ensures ∙ ap (ruleAllows (parentRule (k .kind .result))) (l .line .ensures)) (not-true (a .allows2 .result) (c .if4 .taken))
@@ -79,11 +97,11 @@ returns-5 c =
     let e = c .before in
     let a = e .before in
     let l = a .before in
-    let t = l .before .before .before in
+    let t = l .before .before in
     let i = t .before .before .before .before in
     let p = i .before .before in
     let k = p .before in
-    let s = k .before .before .before in
+    let s = k .before .before .before .before in
     λ pool.
     structure-elsewhere (now (s .args .table)) pool (s .args .row .0) (s .pre .0) (k .kind .ensures) (p .parent .ensures) (i .if1 .left) (omega arith) (t .kind2 .ensures)
     (a .allows2 .ensures ∙ ap (ruleAllows (parentRule (k .kind .result))) (l .line .ensures)) (not-false (a .allows2 .result) (e .if4 .left)) (c .if5 .taken)
@@ -101,15 +119,15 @@ returns-6 c =
     let e = d .before .before in
     let a = e .before in
     let l = a .before in
-    let t = l .before .before .before in
+    let t = l .before .before in
     let i = t .before .before .before .before in
     let p = i .before .before in
     let k = p .before in
-    let s = k .before .before .before in
+    let s = k .before .before .before .before in
     λ pool.
     structure-second (now (s .args .table)) pool (s .args .row .0) (s .pre .0) (k .kind .ensures) (p .parent .ensures) (i .if1 .left) (omega arith) (t .kind2 .ensures)
     (a .allows2 .ensures ∙ ap (ruleAllows (parentRule (k .kind .result))) (l .line .ensures)) (not-false (a .allows2 .result) (e .if4 .left)) (d .before .if5 .left)
-    (now (s .args .children)) (s .pre .1) (d .linked .ensures) (g .is-element .ensures)
+    (now (s .args .children)) (s .pre .1 .1) (d .linked .ensures) (g .is-element .ensures)
 
 pub bad-spec : {M : Type 1} → statement M
 bad-spec =
@@ -121,7 +139,7 @@ bad-spec =
     returns
     returns-2
     kind-requires-2
-    is-usual-requires
+    has-bit-requires
     returns-3
     line-requires
     allows-requires-2
