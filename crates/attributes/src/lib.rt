@@ -32,9 +32,9 @@ fn link(table: &[u32], notes: &mut [u16], row: Row)
     if rows::kind(table, row) == rules::ATTRIBUTE {
         let owner = rows::parent(table, row);
         if rows::has_row(table, owner) {
-            let next = notes::note(notes, owner, notes::FIRST);
-            notes::set_note(notes, row, notes::NEXT, next);
-            notes::set_note(notes, owner, notes::FIRST, (row.0 + 1) as u16);
+            let next = notes::link(notes, owner, notes::FIRST);
+            notes::set_link(notes, row, notes::NEXT, next);
+            notes::set_link(notes, owner, notes::FIRST, notes::position_of(row));
         }
     }
 }

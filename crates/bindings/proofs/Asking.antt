@@ -10,16 +10,16 @@ use lib.Dec.{eqb}
 use borrow.Author.Tests.{eqb-true, eqb-false, eq-eqb, ne-eqb}
 use Rattle.rules.specs.Table.{PARENT, word, rowCount}
 use Rattle.rules.proofs.Lists.{by-cases, true-not-false}
-use Rattle.notes.specs.Notes.{NOTES, PREFIX, URI, VALUE, noteAt}
-use Rattle.scopes.specs.Stacks.{PREFIXES, NUMBERED, topAt, underAt, valueAt}
+use Rattle.notes.specs.Notes.{NOTES, PREFIX, URI, noteAt}
+use Rattle.stacks.specs.Stacks.{PREFIXES, NUMBERED, topAt, underAt, valueAt}
 use Rattle.bindings.specs.Spelled.{numberAt}
 use Rattle.bindings.specs.Asking.{topOf, elementSettled, attributeSettled, Asked, ownTop, isUsed, Searched, LeastUnused}
 
 pub value-none : (notes : List ℕ) {d : ℕ} → d ≡ 0 → 0 ≡ numberAt (valueAt notes) d
 value-none notes is = rw is refl
 
-pub value-read : (notes : List ℕ) {d r v : ℕ} → (d ≡ 0 → ⊥) → r ≡ d - 1 → v ≡ noteAt notes r VALUE → v ≡ numberAt (valueAt notes) d
-value-read notes {d} some? at read = read ∙ rw (at, ne-eqb d 0 some?) refl
+pub value-read : (notes : List ℕ) {d v : ℕ} → (d ≡ 0 → ⊥) → v ≡ valueAt notes d → v ≡ numberAt (valueAt notes) d
+value-read notes {d} some? read = read ∙ rw (ne-eqb d 0 some?) refl
 
 module _ {notes tops path : List ℕ} {r : ℕ} (asked : Asked notes tops path r) where
   pub top-room : {p t : ℕ} → p ≡ noteAt notes r PREFIX → t ≡ topAt tops PREFIXES p → NOTES * t ≤ length notes

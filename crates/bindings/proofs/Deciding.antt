@@ -18,7 +18,7 @@ use Rattle.rules.proofs.Accepted.{NamespaceAccepted}
 use Rattle.rules.proofs.Repairs.{xml-means}
 use Rattle.rules.proofs.Declarations.{legal}
 use Rattle.numbers.specs.Numbers.{Names}
-use Rattle.scopes.specs.Scopes.{nearest, serving, first}
+use Rattle.stacks.specs.Scopes.{nearest, serving, first}
 use Rattle.bindings.specs.Spelled.{Here, rowAt, numberAt}
 use Rattle.bindings.proofs.Scopes as scopes
 

@@ -15,11 +15,11 @@ use Rattle.rules.proofs.Lists.{by-cases, both-true}
 use Rattle.rules.proofs.Table.{node-nodes}
 use Rattle.rules.proofs.Passable.{isPassable, passable, passable-scope, scope-declarations}
 use Rattle.numbers.specs.Numbers.{Names}
-use Rattle.scopes.specs.Scopes.{nearest, Each}
+use Rattle.stacks.specs.Scopes.{nearest, Each}
 use Rattle.scopes.specs.Rows.{ownRows, outward, scopeRows}
-use Rattle.scopes.specs.Stacks.{PREFIXES, topAt, prefixAt, valueAt}
+use Rattle.stacks.specs.Stacks.{PREFIXES, topAt, prefixAt, valueAt}
 use Rattle.scopes.specs.Standing.{Standing}
-use Rattle.scopes.proofs.Each.{each-map, each-both, each-append}
+use Rattle.stacks.proofs.Each.{each-map, each-both, each-append}
 use Rattle.scopes.proofs.Own.{own-each}
 use Rattle.scopes.proofs.Answers.{standing-alike, standing-nearest}
 use Rattle.scopes.proofs.Definitions.{scope-defined}

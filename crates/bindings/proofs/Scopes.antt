@@ -15,8 +15,8 @@ use Rattle.rules.proofs.Declarations.{legal}
 use Rattle.rules.proofs.Repairs.{found-means}
 use Rattle.numbers.specs.Numbers.{Names, Spelling}
 use Rattle.numbers.proofs.Laws.{same-number}
-use Rattle.scopes.specs.Scopes.{nearest, serving, first, Each}
-use Rattle.scopes.proofs.Each.{each-map, each-both}
+use Rattle.stacks.specs.Scopes.{nearest, serving, first, Each}
+use Rattle.stacks.proofs.Each.{each-map, each-both}
 use Rattle.bindings.specs.Spelled.{Declares, rowAt, numberAt}
 
 -- The numbers of the empty name and of others.

@@ -7,7 +7,7 @@ use lib.ListN.{length}
 use lib.Dec.{eqb}
 use Rattle.rules.specs.Table.{PARENT, word}
 use Rattle.notes.specs.Notes.{NOTES, PREFIX, URI, noteAt}
-use Rattle.scopes.specs.Stacks.{TOPS, PREFIXES, NUMBERED, topAt, underAt, valueAt}
+use Rattle.stacks.specs.Stacks.{TOPS, PATH, PREFIXES, NUMBERED, topAt, underAt, valueAt}
 use Rattle.bindings.specs.Spelled.{numberAt}
 
 -- The nearest declaration of row r's prefix, 0 where there is none; and the number of its value.
@@ -30,7 +30,7 @@ attributeSettled notes tops path r =
 pub record Asked (notes tops path : List ℕ) (r : ℕ) : Type 0 where
   pub row : NOTES * r + NOTES ≤ length notes
   pub prefix : TOPS * noteAt notes r PREFIX + TOPS ≤ length tops
-  pub xml : 4 ≤ length path
+  pub xml : PATH ≤ length path
   pub top : NOTES * topOf notes tops r ≤ length notes
 
 -- The declaration of row e's prefix, if it is e's own; else 0.
@@ -45,7 +45,7 @@ isUsed tops path k = not (eqb (numberAt (topAt tops PREFIXES) (underAt path NUMB
 pub record Searched (tops path : List ℕ) (from last : ℕ) : Type 0 where
   pub low : from ≤ last
   pub free : isUsed tops path last ≡ false
-  pub placed : 4 * last + 4 ≤ length path
+  pub placed : PATH * last + PATH ≤ length path
   pub topped : (k : ℕ) → k ≤ last → TOPS * underAt path NUMBERED k + TOPS ≤ length tops
   pub small : last < 65535
 

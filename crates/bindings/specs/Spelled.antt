@@ -12,7 +12,7 @@ use Rattle.rules.specs.Refusals.{badDeclaration}
 use Rattle.rules.proofs.Passable.{isPassable}
 use Rattle.numbers.specs.Numbers.{Names, Spelling}
 use Rattle.numbers.specs.Noted.{NodeNumbered}
-use Rattle.scopes.specs.Scopes.{Alike, Each}
+use Rattle.stacks.specs.Scopes.{Alike, Each}
 use Rattle.scopes.specs.Rows.{Tree}
 use Rattle.scopes.specs.Standing.{Standing}
 

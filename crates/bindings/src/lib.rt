@@ -5,9 +5,11 @@ ghost use Prim.Native.Nat.{ℕ, _+_, _*_, _≤_};
 ghost use lib.ListN.{length};
 ghost use Rattle.rules.specs.Table.{rowCount};
 ghost use Rattle.notes.specs.Notes.{NOTES};
-ghost use Rattle.scopes.specs.Stacks.{TOPS, NUMBERED, underAt, valueAt};
+ghost use Rattle.stacks.specs.Stacks.{TOPS, PATH, NUMBERED, underAt, valueAt};
 ghost use Rattle.bindings.specs.Spelled.{numberAt};
 ghost use Rattle.bindings.specs.Asking.{topOf, elementSettled, attributeSettled, Asked, ownTop, isUsed, Searched, LeastUnused};
+use rules::NameId;
+use rules::Position;
 use rules::Row;
 
 // The prefix of an element stands for its URI: its nearest declaration has that value, or the prefix is
@@ -16,9 +18,10 @@ pub fn element_settled(notes: &[u16], tops: &[u16], path: &[u16], row: Row) -> b
     requires { ⌜ Asked (now notes) (now tops) (now path) (row .0) ⌝ }
     ensures { λ r. ⌜ r ≡ elementSettled (now (notes .entry)) (now (tops .entry)) (now (path .entry)) (row .0) ⌝ }
 {
-    let prefix = notes::note(notes, row, notes::PREFIX);
-    let value = value_of(notes, scopes::stacks::nearest(tops, prefix));
-    (value == notes::note(notes, row, notes::URI)) | (prefix == scopes::stacks::numbered(path, 0))
+    let prefix = notes::name(notes, row, notes::PREFIX);
+    let value = value_of(notes, stacks::nearest(tops, prefix));
+    let uri = notes::name(notes, row, notes::URI);
+    (value.0 == uri.0) | (prefix.0 == stacks::xml(path).0)
 }
 
 // An attribute has no URI, or it has a prefix that stands for it.
@@ -26,31 +29,31 @@ pub fn attribute_settled(notes: &[u16], tops: &[u16], path: &[u16], row: Row) ->
     requires { ⌜ Asked (now notes) (now tops) (now path) (row .0) ⌝ }
     ensures { λ r. ⌜ r ≡ attributeSettled (now (notes .entry)) (now (tops .entry)) (now (path .entry)) (row .0) ⌝ }
 {
-    if notes::note(notes, row, notes::URI) == 0 {
+    if notes::name(notes, row, notes::URI).0 == 0 {
         return true;
     }
-    if notes::note(notes, row, notes::PREFIX) == 0 {
+    if notes::name(notes, row, notes::PREFIX).0 == 0 {
         return false;
     }
     element_settled(notes, tops, path, row)
 }
 
 // The element's own declaration of its prefix, or 0.
-pub fn own_declaration(table: &[u32], notes: &[u16], tops: &[u16], element: Row) -> u16
+pub fn own_declaration(table: &[u32], notes: &[u16], tops: &[u16], element: Row) -> Position
     requires { ⌜ ((path : List ℕ) × Asked (now notes) (now tops) path (element .0)) ⌝ }
     requires { ⌜ topOf (now notes) (now tops) (element .0) ≤ rowCount (now table) ⌝ }
-    ensures { λ r. ⌜ r ≡ ownTop (now (table .entry)) (now (notes .entry)) (now (tops .entry)) (element .0) ⌝ }
+    ensures { λ r. ⌜ r .0 ≡ ownTop (now (table .entry)) (now (notes .entry)) (now (tops .entry)) (element .0) ⌝ }
 {
-    let prefix = notes::note(notes, element, notes::PREFIX);
-    let top = scopes::stacks::nearest(tops, prefix);
-    if top == 0 {
-        return 0;
+    let prefix = notes::name(notes, element, notes::PREFIX);
+    let top = stacks::nearest(tops, prefix);
+    if top.0 == 0 {
+        return Position(0);
     }
-    let owner = rows::parent(table, scopes::row_at(top));
+    let owner = rows::parent(table, notes::row_at(top));
     if owner.0 == element.0 {
         return top;
     }
-    0
+    Position(0)
 }
 
 // The least number from another on whose NS prefix is not declared in scope.
@@ -67,23 +70,23 @@ pub fn least_unused(tops: &[u16], path: &[u16], from: u16) -> u16
 
 // The NS prefix of a number is declared in scope.
 fn is_used(tops: &[u16], path: &[u16], k: u16) -> bool
-    requires { ⌜ (4 * k + 4 ≤ length (now path)) × (TOPS * underAt (now path) NUMBERED k + TOPS ≤ length (now tops)) ⌝ }
+    requires { ⌜ (PATH * k + PATH ≤ length (now path)) × (TOPS * underAt (now path) NUMBERED k + TOPS ≤ length (now tops)) ⌝ }
     ensures { λ r. ⌜ r ≡ isUsed (now (tops .entry)) (now (path .entry)) k ⌝ }
 {
-    let number = scopes::stacks::numbered(path, k);
-    if number == 0 {
+    let number = stacks::numbered(path, k);
+    if number.0 == 0 {
         return false;
     }
-    scopes::stacks::nearest(tops, number) != 0
+    stacks::nearest(tops, number).0 != 0
 }
 
 // The number of a declaration's value; 0 where there is no declaration.
-fn value_of(notes: &[u16], position: u16) -> u16
-    requires { ⌜ NOTES * position ≤ length (now notes) ⌝ }
-    ensures { λ r. ⌜ r ≡ numberAt (valueAt (now (notes .entry))) position ⌝ }
+fn value_of(notes: &[u16], position: Position) -> NameId
+    requires { ⌜ NOTES * position .0 ≤ length (now notes) ⌝ }
+    ensures { λ r. ⌜ r .0 ≡ numberAt (valueAt (now (notes .entry))) (position .0) ⌝ }
 {
-    if position == 0 {
-        return 0;
+    if position.0 == 0 {
+        return NameId(0);
     }
-    notes::note(notes, scopes::row_at(position), notes::VALUE)
+    notes::name_at(notes, position, notes::VALUE)
 }

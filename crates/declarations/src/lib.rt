@@ -15,12 +15,20 @@ ghost use Rattle.ancestors.specs.Paths.{Element};
 ghost use Rattle.declarations.specs.Along.{Ready, Along};
 ghost use Rattle.declarations.specs.Meant.{Meant};
 use rules::Bound;
+use rules::NameId;
+use rules::Position;
 use rules::Row;
 
 // The in-scope URI of a prefix that has this number, or of the default.
-pub fn in_scope_uri(table: &[u32], notes: &[u16], path: &[u32], prefix: &[u8], number: u16) -> Bound
+pub fn in_scope_uri(
+    table: &[u32],
+    notes: &[u16],
+    path: &[u32],
+    prefix: &[u8],
+    number: NameId,
+) -> Bound
     requires { ⌜ Along (now table) (now notes) (now path) ⌝ }
-    ensures { λ r. ⌜ ((pool : List ℕ) → Meant (now (table .entry)) pool (now (notes .entry)) number (now (prefix .entry)) → r ≡ bound (inScopeUri (scopeOf (nodes (now (table .entry)) pool) (now (path .entry))) (now (prefix .entry)))) ⌝ }
+    ensures { λ r. ⌜ ((pool : List ℕ) → Meant (now (table .entry)) pool (now (notes .entry)) (number .0) (now (prefix .entry)) → r ≡ bound (inScopeUri (scopeOf (nodes (now (table .entry)) pool) (now (path .entry))) (now (prefix .entry)))) ⌝ }
 {
     if names::is_xml(prefix) {
         return Bound::Xml;
@@ -29,16 +37,22 @@ pub fn in_scope_uri(table: &[u32], notes: &[u16], path: &[u32], prefix: &[u8], n
         return Bound::Xmlns;
     }
     let row = nearest(table, notes, path, number);
-    if value_of(table, notes, row) == 0 {
+    if value_of(table, notes, row).0 == 0 {
         return Bound::Nothing;
     }
     Bound::At(rows::place(table, row, rules::VALUE))
 }
 
 // The in-scope prefix of a URI that has this number.
-pub fn in_scope_prefix(table: &[u32], notes: &[u16], path: &[u32], uri: &[u8], number: u16) -> Bound
+pub fn in_scope_prefix(
+    table: &[u32],
+    notes: &[u16],
+    path: &[u32],
+    uri: &[u8],
+    number: NameId,
+) -> Bound
     requires { ⌜ Along (now table) (now notes) (now path) ⌝ }
-    ensures { λ r. ⌜ ((pool : List ℕ) → Meant (now (table .entry)) pool (now (notes .entry)) number (now (uri .entry)) → r ≡ bound (inScopePrefix (scopeOf (nodes (now (table .entry)) pool) (now (path .entry))) (now (uri .entry)))) ⌝ }
+    ensures { λ r. ⌜ ((pool : List ℕ) → Meant (now (table .entry)) pool (now (notes .entry)) (number .0) (now (uri .entry)) → r ≡ bound (inScopePrefix (scopeOf (nodes (now (table .entry)) pool) (now (path .entry))) (now (uri .entry)))) ⌝ }
 {
     if uri.len() == 0 {
         return Bound::Nothing;
@@ -57,31 +71,33 @@ pub fn in_scope_prefix(table: &[u32], notes: &[u16], path: &[u32], uri: &[u8], n
 }
 
 // An element's own declaration of a prefix.
-pub fn own(table: &[u32], notes: &[u16], element: Row, prefix: u16) -> Row
+pub fn own(table: &[u32], notes: &[u16], element: Row, prefix: NameId) -> Row
     requires { ⌜ Ready (now table) (now notes) ⌝ }
     requires { ⌜ Element (now table) (element .0) ⌝ }
-    ensures { λ r. ⌜ ((pool name : List ℕ) → Meant (now (table .entry)) pool (now (notes .entry)) prefix name → found (nodes (now (table .entry)) pool) (r .0) ≡ firstThat (declares name) (ownDeclarations (nodes (now (table .entry)) pool) (element .0))) ⌝ }
+    ensures { λ r. ⌜ ((pool name : List ℕ) → Meant (now (table .entry)) pool (now (notes .entry)) (prefix .0) name → found (nodes (now (table .entry)) pool) (r .0) ≡ firstThat (declares name) (ownDeclarations (nodes (now (table .entry)) pool) (element .0))) ⌝ }
 {
     let e = element.0;
+    let wanted = prefix.0;
     let mut first = rules::NONE;
-    let mut at = notes::note(notes, Row(e), notes::LATEST);
+    let mut at = notes::link(notes, Row(e), notes::LATEST).0;
     while at > 0 {
-        let row = scopes::row_at(at);
-        let is = notes::note(notes, row, notes::LOCAL_NAME) == prefix;
-        first = earlier(is, row.0, first);
-        at = notes::note(notes, row, notes::PREVIOUS);
+        let row = notes::row_at(Position(at));
+        let is = notes::name(notes, row, notes::LOCAL_NAME).0 == wanted;
+        first = earlier(is, row, Row(first)).0;
+        at = notes::link(notes, row, notes::PREVIOUS).0;
     }
     Row(first)
 }
 
 // The nearest declaration of a prefix along a path.
-fn nearest(table: &[u32], notes: &[u16], path: &[u32], prefix: u16) -> Row
+fn nearest(table: &[u32], notes: &[u16], path: &[u32], prefix: NameId) -> Row
     requires { ⌜ Along (now table) (now notes) (now path) ⌝ }
-    ensures { λ r. ⌜ ((pool name : List ℕ) → Meant (now (table .entry)) pool (now (notes .entry)) prefix name → found (nodes (now (table .entry)) pool) (r .0) ≡ firstThat (declares name) (scopeOf (nodes (now (table .entry)) pool) (now (path .entry)))) ⌝ }
+    ensures { λ r. ⌜ ((pool name : List ℕ) → Meant (now (table .entry)) pool (now (notes .entry)) (prefix .0) name → found (nodes (now (table .entry)) pool) (r .0) ≡ firstThat (declares name) (scopeOf (nodes (now (table .entry)) pool) (now (path .entry)))) ⌝ }
 {
+    let wanted = prefix.0;
     let mut i: usize = 0;
     while i < path.len() {
-        let declaration = own(table, notes, rows::row_at(path, i), prefix);
+        let declaration = own(table, notes, rows::row_at(path, i), NameId(wanted));
         if rows::has_row(table, declaration) {
             return declaration;
         }
@@ -92,13 +108,15 @@ fn nearest(table: &[u32], notes: &[u16], path: &[u32], prefix: u16) -> Row
 
 // The first declaration along a path that gives a URI a prefix which no nearer declaration rebinds. The
 // URI is not that of xml, which no declaration but xml's own has.
-fn serving(table: &[u32], notes: &[u16], path: &[u32], uri: u16) -> Row
+fn serving(table: &[u32], notes: &[u16], path: &[u32], uri: NameId) -> Row
     requires { ⌜ Along (now table) (now notes) (now path) ⌝ }
-    ensures { λ r. ⌜ ((pool name : List ℕ) → Meant (now (table .entry)) pool (now (notes .entry)) uri name → sameBytes name xmlUri ≡ false → found (nodes (now (table .entry)) pool) (r .0) ≡ firstThat (serves (scopeOf (nodes (now (table .entry)) pool) (now (path .entry))) name) (scopeOf (nodes (now (table .entry)) pool) (now (path .entry)))) ⌝ }
+    ensures { λ r. ⌜ ((pool name : List ℕ) → Meant (now (table .entry)) pool (now (notes .entry)) (uri .0) name → sameBytes name xmlUri ≡ false → found (nodes (now (table .entry)) pool) (r .0) ≡ firstThat (serves (scopeOf (nodes (now (table .entry)) pool) (now (path .entry))) name) (scopeOf (nodes (now (table .entry)) pool) (now (path .entry)))) ⌝ }
 {
+    let wanted = uri.0;
     let mut i: usize = 0;
     while i < path.len() {
-        let declaration = own_serving(table, notes, path, rows::row_at(path, i), uri);
+        let element = rows::row_at(path, i);
+        let declaration = own_serving(table, notes, path, element, NameId(wanted));
         if rows::has_row(table, declaration) {
             return declaration;
         }
@@ -108,53 +126,54 @@ fn serving(table: &[u32], notes: &[u16], path: &[u32], uri: u16) -> Row
 }
 
 // The first of an element's own declarations that serves along the path.
-fn own_serving(table: &[u32], notes: &[u16], path: &[u32], element: Row, uri: u16) -> Row
+fn own_serving(table: &[u32], notes: &[u16], path: &[u32], element: Row, uri: NameId) -> Row
     requires { ⌜ Along (now table) (now notes) (now path) ⌝ }
     requires { ⌜ Element (now table) (element .0) ⌝ }
-    ensures { λ r. ⌜ ((pool name : List ℕ) → Meant (now (table .entry)) pool (now (notes .entry)) uri name → sameBytes name xmlUri ≡ false → found (nodes (now (table .entry)) pool) (r .0) ≡ firstThat (serves (scopeOf (nodes (now (table .entry)) pool) (now (path .entry))) name) (ownDeclarations (nodes (now (table .entry)) pool) (element .0))) ⌝ }
+    ensures { λ r. ⌜ ((pool name : List ℕ) → Meant (now (table .entry)) pool (now (notes .entry)) (uri .0) name → sameBytes name xmlUri ≡ false → found (nodes (now (table .entry)) pool) (r .0) ≡ firstThat (serves (scopeOf (nodes (now (table .entry)) pool) (now (path .entry))) name) (ownDeclarations (nodes (now (table .entry)) pool) (element .0))) ⌝ }
 {
     let e = element.0;
+    let wanted = uri.0;
     let mut first = rules::NONE;
-    let mut at = notes::note(notes, Row(e), notes::LATEST);
+    let mut at = notes::link(notes, Row(e), notes::LATEST).0;
     while at > 0 {
-        let row = scopes::row_at(at);
-        let is = serves(table, notes, path, row, uri);
-        first = earlier(is, row.0, first);
-        at = notes::note(notes, row, notes::PREVIOUS);
+        let row = notes::row_at(Position(at));
+        let is = serves(table, notes, path, row, NameId(wanted));
+        first = earlier(is, row, Row(first)).0;
+        at = notes::link(notes, row, notes::PREVIOUS).0;
     }
     Row(first)
 }
 
 // The declaration gives its prefix this URI, and so does what is in scope along the path.
-fn serves(table: &[u32], notes: &[u16], path: &[u32], declaration: Row, uri: u16) -> bool
+fn serves(table: &[u32], notes: &[u16], path: &[u32], declaration: Row, uri: NameId) -> bool
     requires { ⌜ Along (now table) (now notes) (now path) ⌝ }
     requires { ⌜ (declaration .0 < rowCount (now table)) × (word (now table) (declaration .0) TYPE ≡ DECLARATION) ⌝ }
-    ensures { λ r. ⌜ ((pool name : List ℕ) → Meant (now (table .entry)) pool (now (notes .entry)) uri name → sameBytes name xmlUri ≡ false → r ≡ serves (scopeOf (nodes (now (table .entry)) pool) (now (path .entry))) name (nodeAt (now (table .entry)) pool (declaration .0))) ⌝ }
+    ensures { λ r. ⌜ ((pool name : List ℕ) → Meant (now (table .entry)) pool (now (notes .entry)) (uri .0) name → sameBytes name xmlUri ≡ false → r ≡ serves (scopeOf (nodes (now (table .entry)) pool) (now (path .entry))) name (nodeAt (now (table .entry)) pool (declaration .0))) ⌝ }
 {
-    if notes::note(notes, declaration, notes::VALUE) == uri {
-        let prefix = notes::note(notes, declaration, notes::LOCAL_NAME);
-        if prefix == 0 {
+    if notes::name(notes, declaration, notes::VALUE).0 == uri.0 {
+        let prefix = notes::name(notes, declaration, notes::LOCAL_NAME);
+        if prefix.0 == 0 {
             return false;
         }
-        return value_of(table, notes, nearest(table, notes, path, prefix)) == uri;
+        return value_of(table, notes, nearest(table, notes, path, prefix)).0 == uri.0;
     }
     false
 }
 
 // The number of the value of a declaration that may be missing; a missing one has the empty value.
-fn value_of(table: &[u32], notes: &[u16], declaration: Row) -> u16
+fn value_of(table: &[u32], notes: &[u16], declaration: Row) -> NameId
     requires { ⌜ NOTES * rowCount (now table) ≤ length (now notes) ⌝ }
-    ensures { λ r. ⌜ r ≡ cond (ltb (declaration .0) (rowCount (now (table .entry)))) (noteAt (now (notes .entry)) (declaration .0) VALUE) 0 ⌝ }
+    ensures { λ r. ⌜ r .0 ≡ cond (ltb (declaration .0) (rowCount (now (table .entry)))) (noteAt (now (notes .entry)) (declaration .0) VALUE) 0 ⌝ }
 {
     if rows::has_row(table, declaration) {
-        return notes::note(notes, declaration, notes::VALUE);
+        return notes::name(notes, declaration, notes::VALUE);
     }
-    0
+    NameId(0)
 }
 
 // The row, if it passes; else the one that was found behind it.
-pub fn earlier(passes: bool, row: u32, later: u32) -> u32
-    ensures { λ r. ⌜ r ≡ cond passes row later ⌝ }
+pub fn earlier(passes: bool, row: Row, later: Row) -> Row
+    ensures { λ r. ⌜ r .0 ≡ cond passes (row .0) (later .0) ⌝ }
 {
     if passes {
         return row;

@@ -2,7 +2,7 @@
 // an element owns. One lent array holds it, eight words for each row. In the links rows are counted
 // from 1 (a row's position), since 0 is no row.
 ghost use mathlib.Core.Path.{_≡_};
-ghost use Prim.Native.Nat.{_+_, _-_, _*_, _<_};
+ghost use Prim.Native.Nat.{_+_, _-_, _*_, _≤_, _<_};
 ghost use lib.ListN.{length};
 ghost use Rattle.notes.specs.Notes.{NOTES, noteAt, noted};
 use rules::NameId;
@@ -32,7 +32,7 @@ pub const FIRST: usize = 6;
 pub const NEXT: usize = 7;
 
 // A word of a row's notes.
-pub fn note(notes: &[u16], row: Row, k: usize) -> u16
+fn note(notes: &[u16], row: Row, k: usize) -> u16
     requires { ⌜ NOTES * row .0 + k < length (now notes) ⌝ }
     ensures { λ r. ⌜ r ≡ noteAt (now (notes .entry)) (row .0) k ⌝ }
 {
@@ -40,7 +40,7 @@ pub fn note(notes: &[u16], row: Row, k: usize) -> u16
 }
 
 // Notes a word of a row.
-pub fn set_note(notes: &mut [u16], row: Row, k: usize, value: u16)
+fn set_note(notes: &mut [u16], row: Row, k: usize, value: u16)
     requires { ⌜ NOTES * row .0 + k < length (now notes) ⌝ }
     ensures { λ _. ⌜ now (notes .exit) ≡ noted (now (notes .entry)) (row .0) k value ⌝ }
 {
@@ -53,6 +53,14 @@ pub fn name(notes: &[u16], row: Row, k: usize) -> NameId
     ensures { λ r. ⌜ r .0 ≡ noteAt (now (notes .entry)) (row .0) k ⌝ }
 {
     NameId(note(notes, row, k))
+}
+
+// The number of a name of the row at a position.
+pub fn name_at(notes: &[u16], position: Position, k: usize) -> NameId
+    requires { ⌜ (0 < position .0) × (NOTES * position .0 ≤ length (now notes)) × (k < NOTES) ⌝ }
+    ensures { λ r. ⌜ r .0 ≡ noteAt (now (notes .entry)) (position .0 - 1) k ⌝ }
+{
+    name(notes, row_at(position), k)
 }
 
 // Notes the number of a name of a row.
@@ -69,6 +77,14 @@ pub fn link(notes: &[u16], row: Row, k: usize) -> Position
     ensures { λ r. ⌜ r .0 ≡ noteAt (now (notes .entry)) (row .0) k ⌝ }
 {
     Position(note(notes, row, k))
+}
+
+// A link of the row at a position.
+pub fn link_at(notes: &[u16], position: Position, k: usize) -> Position
+    requires { ⌜ (0 < position .0) × (NOTES * position .0 ≤ length (now notes)) × (k < NOTES) ⌝ }
+    ensures { λ r. ⌜ r .0 ≡ noteAt (now (notes .entry)) (position .0 - 1) k ⌝ }
+{
+    link(notes, row_at(position), k)
 }
 
 // Notes a link of a row.

@@ -9,8 +9,8 @@ use borrow.Author.Tests.{eqb-true, eqb-false, ne-eqb}
 use lib.Dec.{eqb}
 use Rattle.rules.specs.Lists.{filtered}
 use Rattle.rules.proofs.Lists.{by-cases, both-true, not-true, filtered-append}
-use Rattle.scopes.specs.Scopes.{nearest, differs, serving, Alike, Each}
-use Rattle.scopes.proofs.Each.{each-front, each-behind}
+use Rattle.stacks.specs.Scopes.{nearest, differs, serving, Alike, Each}
+use Rattle.stacks.proofs.Each.{each-front, each-behind}
 
 module _ {A : Type 0} (p q : A → Bool) where
   -- Two tests can be made in either order.

@@ -9,12 +9,12 @@ use lib.ListN.{length, length-append}
 use Rattle.rules.specs.Lists.{gathered}
 use Rattle.rules.specs.Table.{rowCount}
 use Rattle.notes.specs.Notes.{LOCAL-NAME, VALUE}
-use Rattle.scopes.specs.Scopes.{nearest, serving, Alike, Each}
+use Rattle.stacks.specs.Scopes.{nearest, serving, Alike, Each}
+use Rattle.stacks.specs.Stacks.{PREFIXES, topAt, prefixAt, valueAt, Inside, NoneOrInside, On}
+use Rattle.stacks.proofs.Each.{each-all, each-map}
+use Rattle.stacks.proofs.Pushed.{top-inside}
 use Rattle.scopes.specs.Rows.{up, ownerOf, ownAmong, ownRows, outward, scopeRows, SameTree, Grown}
-use Rattle.scopes.specs.Stacks.{PREFIXES, topAt, prefixAt, valueAt, Inside, NoneOrInside, On}
 use Rattle.scopes.specs.Standing.{Layers, layer, Standing, Linked, Relinked, Room, Ready, Declaring}
-use Rattle.scopes.proofs.Each.{each-all, each-map}
-use Rattle.scopes.proofs.Pushed.{top-inside}
 use Rattle.scopes.proofs.Reading.{up-falls}
 use Rattle.scopes.proofs.Own.{own-last, own-each}
 use Rattle.scopes.proofs.Alike.{alike-trans, alike-front, alike-behind}

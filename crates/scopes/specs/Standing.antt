@@ -7,9 +7,9 @@ use Rattle.rules.specs.Lists.{gathered}
 use Rattle.rules.specs.Table.{MOST-ROWS, rowCount}
 use Rattle.chains.specs.Chains.{Chained}
 use Rattle.notes.specs.Notes.{NOTES, LATEST, PREVIOUS, noteAt}
-use Rattle.scopes.specs.Scopes.{nearest, serving, Alike, Each}
+use Rattle.stacks.specs.Scopes.{nearest, serving, Alike, Each}
+use Rattle.stacks.specs.Stacks.{TOPS, PATH, prefixAt, valueAt, On}
 use Rattle.scopes.specs.Rows.{ownerOf, ownRows, outward, scopeRows, Grown}
-use Rattle.scopes.specs.Stacks.{TOPS, prefixAt, valueAt, On}
 
 -- The position is that of a declaration of the table, whose owner is row e or an earlier one.
 pub record Member (table : List ℕ) (e d : ℕ) : Type 0 where
@@ -45,7 +45,7 @@ Linked table notes n =
 pub record Room (table notes tops path : List ℕ) : Type 0 where
   pub small : rowCount table ≤ MOST-ROWS
   pub noted : NOTES * rowCount table ≤ length notes
-  pub placed : 4 * rowCount table + 4 ≤ length path
+  pub placed : PATH * rowCount table + PATH ≤ length path
   pub prefixes : (d : ℕ) → 0 < d → d ≤ rowCount table → TOPS * prefixAt notes d + TOPS ≤ length tops
   pub values : (d : ℕ) → 0 < d → d ≤ rowCount table → TOPS * valueAt notes d + TOPS ≤ length tops
 

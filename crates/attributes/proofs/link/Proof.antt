@@ -2,8 +2,9 @@
 -- Assumes nothing.
 use Prim.Native.Nat.{_<_}
 use Rattle.rules.specs.Table.{rowCount}
+use Rattle.notes.specs.Notes.{FIRST, noted}
 use borrow.Author.Needs.{needs}
-use mathlib.Core.Path.{refl, sym, _∙_}
+use mathlib.Core.Path.{refl, sym, ap, _∙_}
 use native.Mathlib.Omega.{arith}
 use borrow.Author.Tests.{ltb-true, ltb-false}
 use Rattle.attributes.proofs.Linking.{owned-by, not-owned, not-owned-by, linked-other, linked-made}
@@ -19,22 +20,19 @@ parent-requires c κs = search needs
 has-row-requires : tie.Need-has-row-requires
 has-row-requires c κs = search needs
 
-note-requires : tie.Need-note-requires
-note-requires c κs =
+link-requires : tie.Need-link-requires
+link-requires c κs =
     let within : c .before .before .before .parent .result .0 < rowCount (c .before .before .before .before .before .before .before .before .args .table .now) = ltb-true _ _ (sym (c .before .before .has-row .ensures) ∙ c .before .if2 .taken) in
     omega arith
 
-set-note-requires : tie.Need-set-note-requires
-set-note-requires c κs = search needs
+set-link-requires : tie.Need-set-link-requires
+set-link-requires c κs = search needs
 
-add-set-note : tie.Need-add-set-note
-add-set-note c = search needs
+position-of-requires : tie.Need-position-of-requires
+position-of-requires c κs = search needs
 
-cast-set-note : tie.Need-cast-set-note
-cast-set-note c = search needs
-
-set-note-requires-2 : tie.Need-set-note-requires-2
-set-note-requires-2 c κs =
+set-link-requires-2 : tie.Need-set-link-requires-2
+set-link-requires-2 c κs =
     let within : c .before .before .before .before .before .before .before .before .before .before .parent .result .0 < rowCount (c .before .before .before .before .before .before .before .before .before .before .before .before .before .before .before .args .table .now) = ltb-true _ _ (sym (c .before .before .before .before .before .before .before .before .before .has-row .ensures) ∙ c .before .before .before .before .before .before .before .before .if2 .taken) in
     omega arith
 
@@ -45,7 +43,7 @@ returns : tie.Need-returns
 returns c =
     let s = c .before .before .before .before .before .before .before .before .before .before .before .before .before .before .before .before .before .before in
     linked-made (s .pre .1 .1) (s .pre .0 .1) (s .pre .1 .0) (ltb-true _ _ (sym (c .before .before .before .before .before .before .before .before .before .before .before .before .has-row .ensures) ∙ c .before .before .before .before .before .before .before .before .before .before .before .if2 .taken))
-    (owned-by _ _ _ (c .before .before .before .before .before .before .before .before .before .before .before .before .before .before .before .kind .ensures) (c .before .before .before .before .before .before .before .before .before .before .before .before .before .before .if1 .taken) (c .before .before .before .before .before .before .before .before .before .before .before .before .before .parent .ensures)) (c .before .before .before .before .before .before .before .before .before .note .ensures) (c .before .before .before .before .before .before .before .set-note .ensures) (c .before .before .set-note2 .ensures)
+    (owned-by _ _ _ (c .before .before .before .before .before .before .before .before .before .before .before .before .before .before .before .kind .ensures) (c .before .before .before .before .before .before .before .before .before .before .before .before .before .before .if1 .taken) (c .before .before .before .before .before .before .before .before .before .before .before .before .before .parent .ensures)) (c .before .before .before .before .before .before .before .before .before .link .ensures) (c .before .before .before .before .before .before .before .set-link .ensures) (c .before .before .set-link2 .ensures ∙ ap (noted (c .before .before .before .before .before .before .before .set-link .last .0) (c .before .before .before .before .before .before .before .before .before .before .before .before .before .parent .result .0) FIRST) (c .before .before .before .position-of .ensures))
 
 returns-2 : tie.Need-returns-2
 returns-2 c = (linked-other (c .before .before .before .before .before .before .before .pre .1 .1) (not-owned-by _ _ (c .before .before .parent .ensures) (ltb-false _ _ (sym (c .before .has-row .ensures) ∙ c .if2 .left))), λ r j less. refl)
@@ -60,11 +58,10 @@ link-spec =
     kind-requires
     parent-requires
     has-row-requires
-    note-requires
-    set-note-requires
-    add-set-note
-    cast-set-note
-    set-note-requires-2
+    link-requires
+    set-link-requires
+    position-of-requires
+    set-link-requires-2
     same-length
     returns
     returns-2

@@ -30,24 +30,24 @@ value-of-requires c κs = c .before .before .before .before .before .before .bef
 
 returns-3 : tie.Need-returns-3
 returns-3 c pool meant =
-    let s = c .before .before .before .before .before .before .before .before .before .before .before in
-    let near = c .before .before .nearest .ensures pool _ meant in
-    value-none meant _ (λ within. scope-declaration _ pool _ within (declares (s .args .prefix .now)) (s .args .path .now) near) _ (c .before .value-of .ensures) (c .if3 .taken)
+    let s = c .before .before .before .before .before .before .before .before .before .before .before .before in
+    let near = c .before .before .before .nearest .ensures pool _ meant in
+    value-none meant _ (λ within. scope-declaration _ pool _ within (declares (s .args .prefix .now)) (s .args .path .now) near) _ (c .before .before .value-of .ensures) (c .if3 .taken)
     ∙ ap (λ d. bound (orUnbound (valueOf d))) near
-    ∙ ap bound (in-scope-means _ _ (sym (c .before .before .before .before .before .before .is-xml .ensures) ∙ c .before .before .before .before .before .if1 .left) (sym (c .before .before .before .before .is-xmlns .ensures) ∙ c .before .before .before .if2 .left))
+    ∙ ap bound (in-scope-means _ _ (sym (c .before .before .before .before .before .before .before .is-xml .ensures) ∙ c .before .before .before .before .before .before .if1 .left) (sym (c .before .before .before .before .before .is-xmlns .ensures) ∙ c .before .before .before .before .if2 .left))
 
 place-requires : tie.Need-place-requires
 place-requires c κs =
-    let s = c .before .before .before .before .before .before .before .before .before .before .before in
-    (value-within (s .args .table .now) (s .args .notes .now) (c .before .before .nearest .result .0) _ (c .before .value-of .ensures) (c .if3 .left), omega arith)
+    let s = c .before .before .before .before .before .before .before .before .before .before .before .before in
+    (value-within (s .args .table .now) (s .args .notes .now) (c .before .before .before .nearest .result .0) _ (c .before .before .value-of .ensures) (c .if3 .left), omega arith)
 
 returns-4 : tie.Need-returns-4
 returns-4 c pool meant =
-    let s = c .before .before .before .before .before .before .before .before .before .before .before .before in
-    let near = c .before .before .before .nearest .ensures pool _ meant in
-    value-at meant _ (λ within. scope-declaration _ pool _ within (declares (s .args .prefix .now)) (s .args .path .now) near) _ (c .before .before .value-of .ensures) (value-within (s .args .table .now) (s .args .notes .now) (c .before .before .before .nearest .result .0) _ (c .before .before .value-of .ensures) (c .before .if3 .left)) (c .before .if3 .left) _ (c .place .ensures)
+    let s = c .before .before .before .before .before .before .before .before .before .before .before .before .before in
+    let near = c .before .before .before .before .nearest .ensures pool _ meant in
+    value-at meant _ (λ within. scope-declaration _ pool _ within (declares (s .args .prefix .now)) (s .args .path .now) near) _ (c .before .before .before .value-of .ensures) (value-within (s .args .table .now) (s .args .notes .now) (c .before .before .before .before .nearest .result .0) _ (c .before .before .before .value-of .ensures) (c .before .if3 .left)) (c .before .if3 .left) _ (c .place .ensures)
     ∙ ap (λ d. bound (orUnbound (valueOf d))) near
-    ∙ ap bound (in-scope-means _ _ (sym (c .before .before .before .before .before .before .before .is-xml .ensures) ∙ c .before .before .before .before .before .before .if1 .left) (sym (c .before .before .before .before .before .is-xmlns .ensures) ∙ c .before .before .before .before .if2 .left))
+    ∙ ap bound (in-scope-means _ _ (sym (c .before .before .before .before .before .before .before .before .is-xml .ensures) ∙ c .before .before .before .before .before .before .before .if1 .left) (sym (c .before .before .before .before .before .before .is-xmlns .ensures) ∙ c .before .before .before .before .before .if2 .left))
 
 pub in-scope-uri-spec : {M : Type 1} → statement M
 in-scope-uri-spec =

@@ -14,10 +14,10 @@ use Rattle.declarations.proofs.nearest.Statement.{statement}
 use Rattle.declarations.proofs.nearest.Tie as tie
 
 abbrev Inv-loop : tie.InvT-loop
-Inv-loop table notes path prefix i₀ i = (pool name : List ℕ) → Meant table pool notes prefix name → Searching table pool path (declares name) i
+Inv-loop table notes path wanted i₀ i = (pool name : List ℕ) → Meant table pool notes wanted name → Searching table pool path (declares name) i
 
 abbrev μ-loop : tie.MeasureT-loop
-μ-loop table notes path prefix i₀ i = length path - i
+μ-loop table notes path wanted i₀ i = length path - i
 
 loop-holds : tie.Need-loop-holds Inv-loop μ-loop
 loop-holds c pool name meant = searching-first _ _ _ _

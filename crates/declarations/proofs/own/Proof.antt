@@ -16,26 +16,26 @@ use Rattle.declarations.proofs.own.Statement.{statement}
 use Rattle.declarations.proofs.own.Tie as tie
 
 abbrev Inv-loop : tie.InvT-loop
-Inv-loop table notes prefix e first₀ at₀ first at =
-    Reached table e at × ((pool name : List ℕ) → Meant table pool notes prefix name → Walking table pool e (declares name) at first)
+Inv-loop table notes e wanted first₀ at₀ first at =
+    Reached table e at × ((pool name : List ℕ) → Meant table pool notes wanted name → Walking table pool e (declares name) at first)
 
 abbrev μ-loop : tie.MeasureT-loop
-μ-loop table notes prefix e first₀ at₀ first at = at
+μ-loop table notes e wanted first₀ at₀ first at = at
 
-note-requires : tie.Need-note-requires Inv-loop μ-loop
-note-requires c κs = let s = c .before .before in omega (arith, s .pre .0 .noted, s .pre .1 .within)
+link-requires : tie.Need-link-requires Inv-loop μ-loop
+link-requires c κs = let s = c .before .before in omega (arith, s .pre .0 .noted, s .pre .1 .within)
 
 loop-holds : tie.Need-loop-holds Inv-loop μ-loop
 loop-holds c =
     let s = c .before .before .before in
-    (walk-first _ _ (s .pre .0) _ (s .pre .1) _ (c .note .ensures), λ pool name meant. walking-first _ _ (s .pre .0) _ (s .pre .1) pool (tree meant) (declares name) _ (c .note .ensures))
+    (walk-first _ _ (s .pre .0) _ (s .pre .1) _ (c .link .ensures), λ pool name meant. walking-first _ _ (s .pre .0) _ (s .pre .1) pool (tree meant) (declares name) _ (c .link .ensures))
 
 row-at-requires : tie.Need-row-at-requires Inv-loop μ-loop
 row-at-requires c κs = c .loop-test .taken
 
 -- In the loop the row is one of the table's.
-note-requires-2 : tie.Need-note-requires-2 Inv-loop μ-loop
-note-requires-2 c κs =
+name-requires : tie.Need-name-requires Inv-loop μ-loop
+name-requires c κs =
     let s = c .before .before .before .before .before .before in
     let within = walk-within _ _ (s .pre .0) _ (s .pre .1) _ (c .before .before .loop .inv .0) (c .before .loop-test .taken) _ (c .row-at .ensures) in
     omega (arith, s .pre .0 .noted, within)
@@ -43,26 +43,26 @@ note-requires-2 c κs =
 earlier-requires : tie.Need-earlier-requires Inv-loop μ-loop
 earlier-requires c κs = search needs
 
-note-requires-3 : tie.Need-note-requires-3 Inv-loop μ-loop
-note-requires-3 c κs =
-    let s = c .before .before .before .before .before .before .before .before in
-    let within = walk-within _ _ (s .pre .0) _ (s .pre .1) _ (c .before .before .before .before .loop .inv .0) (c .before .before .before .loop-test .taken) _ (c .before .before .row-at .ensures) in
+link-requires-2 : tie.Need-link-requires-2 Inv-loop μ-loop
+link-requires-2 c κs =
+    let s = c .before .before .before .before .before .before .before .before .before in
+    let within = walk-within _ _ (s .pre .0) _ (s .pre .1) _ (c .before .before .before .before .before .loop .inv .0) (c .before .before .before .before .loop-test .taken) _ (c .before .before .before .row-at .ensures) in
     omega (arith, s .pre .0 .noted, within)
 
 loop-less : tie.Need-loop-less Inv-loop μ-loop
 loop-less c =
-    let s = c .before .before .before .before .before .before .before .before .before in
-    walk-falls _ _ (s .pre .0) _ (s .pre .1) _ (c .before .before .before .before .before .loop .inv .0) (c .before .before .before .before .loop-test .taken) _ (c .before .before .before .row-at .ensures) _ (c .note3 .ensures)
+    let s = c .before .before .before .before .before .before .before .before .before .before in
+    walk-falls _ _ (s .pre .0) _ (s .pre .1) _ (c .before .before .before .before .before .before .loop .inv .0) (c .before .before .before .before .before .loop-test .taken) _ (c .before .before .before .before .row-at .ensures) _ (c .link2 .ensures)
 
 loop-again : tie.Need-loop-again Inv-loop μ-loop
 loop-again c =
-    let s = c .before .before .before .before .before .before .before .before .before in
-    let l = c .before .before .before .before .before in
-    let within = walk-within _ _ (s .pre .0) _ (s .pre .1) _ (l .loop .inv .0) (c .before .before .before .before .loop-test .taken) _ (c .before .before .before .row-at .ensures) in (
-      walk-next _ _ (s .pre .0) _ (s .pre .1) _ (l .loop .inv .0) (c .before .before .before .before .loop-test .taken) _ (c .before .before .before .row-at .ensures) _ (c .note3 .ensures),
+    let s = c .before .before .before .before .before .before .before .before .before .before in
+    let l = c .before .before .before .before .before .before in
+    let within = walk-within _ _ (s .pre .0) _ (s .pre .1) _ (l .loop .inv .0) (c .before .before .before .before .before .loop-test .taken) _ (c .before .before .before .before .row-at .ensures) in (
+      walk-next _ _ (s .pre .0) _ (s .pre .1) _ (l .loop .inv .0) (c .before .before .before .before .before .loop-test .taken) _ (c .before .before .before .before .row-at .ensures) _ (c .link2 .ensures),
       λ pool name meant.
-          walking-next _ _ (s .pre .0) _ (s .pre .1) pool (tree meant) (declares name) _ _ (l .loop .inv .1 pool name meant) (l .loop .inv .0) (c .before .before .before .before .loop-test .taken) _ (c .before .before .before .row-at .ensures) _ (c .note3 .ensures) _
-          (ap (λ (n : ℕ). eqb n (s .args .prefix)) (c .before .before .note2 .ensures) ∙ meant .asked _ _ (local-names meant _ within)) _ (c .before .earlier .ensures),
+          walking-next _ _ (s .pre .0) _ (s .pre .1) pool (tree meant) (declares name) _ _ (l .loop .inv .1 pool name meant) (l .loop .inv .0) (c .before .before .before .before .before .loop-test .taken) _ (c .before .before .before .before .row-at .ensures) _ (c .link2 .ensures) _
+          (ap (λ (n : ℕ). eqb n (s .args .prefix .0)) (c .before .before .before .name .ensures) ∙ meant .asked _ _ (local-names meant _ within)) _ (c .before .earlier .ensures),
     )
 
 returns : tie.Need-returns Inv-loop μ-loop
@@ -76,12 +76,12 @@ own-spec =
     (tie.spec
     Inv-loop
     μ-loop
-    note-requires
+    link-requires
     loop-holds
     row-at-requires
-    note-requires-2
+    name-requires
     earlier-requires
-    note-requires-3
+    link-requires-2
     loop-less
     loop-again
     returns)

@@ -18,20 +18,20 @@ use Rattle.declarations.proofs.own_serving.Statement.{statement}
 use Rattle.declarations.proofs.own_serving.Tie as tie
 
 abbrev Inv-loop : tie.InvT-loop
-Inv-loop table notes path uri e first₀ at₀ first at =
+Inv-loop table notes path e wanted first₀ at₀ first at =
     Reached table e at
-    × ((pool name : List ℕ) → Meant table pool notes uri name → sameBytes name xmlUri ≡ false → Walking table pool e (serves (scopeOf (nodes table pool) path) name) at first)
+    × ((pool name : List ℕ) → Meant table pool notes wanted name → sameBytes name xmlUri ≡ false → Walking table pool e (serves (scopeOf (nodes table pool) path) name) at first)
 
 abbrev μ-loop : tie.MeasureT-loop
-μ-loop table notes path uri e first₀ at₀ first at = at
+μ-loop table notes path e wanted first₀ at₀ first at = at
 
-note-requires : tie.Need-note-requires Inv-loop μ-loop
-note-requires c κs = let s = c .before .before .before in omega (arith, s .pre .0 .ready .noted, s .pre .1 .within)
+link-requires : tie.Need-link-requires Inv-loop μ-loop
+link-requires c κs = let s = c .before .before .before in omega (arith, s .pre .0 .ready .noted, s .pre .1 .within)
 
 loop-holds : tie.Need-loop-holds Inv-loop μ-loop
 loop-holds c =
     let s = c .before .before .before .before in
-    (walk-first _ _ (s .pre .0 .ready) _ (s .pre .1) _ (c .note .ensures), λ pool name meant other. walking-first _ _ (s .pre .0 .ready) _ (s .pre .1) pool (tree meant) (serves (scopeOf (nodes (s .args .table .now) pool) (s .args .path .now)) name) _ (c .note .ensures))
+    (walk-first _ _ (s .pre .0 .ready) _ (s .pre .1) _ (c .link .ensures), λ pool name meant other. walking-first _ _ (s .pre .0 .ready) _ (s .pre .1) pool (tree meant) (serves (scopeOf (nodes (s .args .table .now) pool) (s .args .path .now)) name) _ (c .link .ensures))
 
 row-at-requires : tie.Need-row-at-requires Inv-loop μ-loop
 row-at-requires c κs = c .loop-test .taken
@@ -45,8 +45,8 @@ serves-requires c κs =
 earlier-requires : tie.Need-earlier-requires Inv-loop μ-loop
 earlier-requires c κs = search needs
 
-note-requires-2 : tie.Need-note-requires-2 Inv-loop μ-loop
-note-requires-2 c κs =
+link-requires-2 : tie.Need-link-requires-2 Inv-loop μ-loop
+link-requires-2 c κs =
     let s = c .before .before .before .before .before .before .before .before .before in
     let within = walk-within _ _ (s .pre .0 .ready) _ (s .pre .1) _ (c .before .before .before .before .loop .inv .0) (c .before .before .before .loop-test .taken) _ (c .before .before .row-at .ensures) in
     omega (arith, s .pre .0 .ready .noted, within)
@@ -54,15 +54,15 @@ note-requires-2 c κs =
 loop-less : tie.Need-loop-less Inv-loop μ-loop
 loop-less c =
     let s = c .before .before .before .before .before .before .before .before .before .before in
-    walk-falls _ _ (s .pre .0 .ready) _ (s .pre .1) _ (c .before .before .before .before .before .loop .inv .0) (c .before .before .before .before .loop-test .taken) _ (c .before .before .before .row-at .ensures) _ (c .note2 .ensures)
+    walk-falls _ _ (s .pre .0 .ready) _ (s .pre .1) _ (c .before .before .before .before .before .loop .inv .0) (c .before .before .before .before .loop-test .taken) _ (c .before .before .before .row-at .ensures) _ (c .link2 .ensures)
 
 loop-again : tie.Need-loop-again Inv-loop μ-loop
 loop-again c =
     let s = c .before .before .before .before .before .before .before .before .before .before in
     let l = c .before .before .before .before .before in (
-      walk-next _ _ (s .pre .0 .ready) _ (s .pre .1) _ (l .loop .inv .0) (c .before .before .before .before .loop-test .taken) _ (c .before .before .before .row-at .ensures) _ (c .note2 .ensures),
+      walk-next _ _ (s .pre .0 .ready) _ (s .pre .1) _ (l .loop .inv .0) (c .before .before .before .before .loop-test .taken) _ (c .before .before .before .row-at .ensures) _ (c .link2 .ensures),
       λ pool name meant other.
-          walking-next _ _ (s .pre .0 .ready) _ (s .pre .1) pool (tree meant) (serves (scopeOf (nodes (s .args .table .now) pool) (s .args .path .now)) name) _ _ (l .loop .inv .1 pool name meant other) (l .loop .inv .0) (c .before .before .before .before .loop-test .taken) _ (c .before .before .before .row-at .ensures) _ (c .note2 .ensures) _
+          walking-next _ _ (s .pre .0 .ready) _ (s .pre .1) pool (tree meant) (serves (scopeOf (nodes (s .args .table .now) pool) (s .args .path .now)) name) _ _ (l .loop .inv .1 pool name meant other) (l .loop .inv .0) (c .before .before .before .before .loop-test .taken) _ (c .before .before .before .row-at .ensures) _ (c .link2 .ensures) _
           (c .before .before .serves .ensures pool name meant other) _ (c .before .earlier .ensures),
     )
 
@@ -77,12 +77,12 @@ own-serving-spec =
     (tie.spec
     Inv-loop
     μ-loop
-    note-requires
+    link-requires
     loop-holds
     row-at-requires
     serves-requires
     earlier-requires
-    note-requires-2
+    link-requires-2
     loop-less
     loop-again
     returns)

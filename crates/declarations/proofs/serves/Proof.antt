@@ -11,47 +11,47 @@ use Rattle.declarations.proofs.Served.{value-asked, serves-other, serve
 use Rattle.declarations.proofs.serves.Statement.{statement}
 use Rattle.declarations.proofs.serves.Tie as tie
 
-note-requires : tie.Need-note-requires
-note-requires c κs = let s = c .before .before .before in omega (arith, s .pre .0 .ready .noted, s .pre .1 .0)
+name-requires : tie.Need-name-requires
+name-requires c κs = let s = c .before .before .before in omega (arith, s .pre .0 .ready .noted, s .pre .1 .0)
 
-note-requires-2 : tie.Need-note-requires-2
-note-requires-2 c κs = let s = c .before .before .before .before .before in omega (arith, s .pre .0 .ready .noted, s .pre .1 .0)
+name-requires-2 : tie.Need-name-requires-2
+name-requires-2 c κs = let s = c .before .before .before .before .before .before .before in omega (arith, s .pre .0 .ready .noted, s .pre .1 .0)
 
 returns : tie.Need-returns
 returns c pool name meant other =
-    let s = c .before .before .before .before .before .before .before in
-    serves-default meant _ _ (s .pre .1 .0) (s .pre .1 .1) _ (c .before .note2 .ensures) (c .if2 .taken)
+    let s = c .before .before .before .before .before .before .before .before .before .before in
+    serves-default meant _ _ (s .pre .1 .0) (s .pre .1 .1) _ (c .before .before .name2 .ensures) (c .if2 .taken)
 
 nearest-requires : tie.Need-nearest-requires
-nearest-requires c κs = c .before .before .before .before .before .before .before .pre .0
+nearest-requires c κs = c .before .before .before .before .before .before .before .before .before .before .pre .0
 
 value-of-requires : tie.Need-value-of-requires
-value-of-requires c κs = c .before .before .before .before .before .before .before .before .pre .0 .ready .noted
+value-of-requires c κs = c .before .before .before .before .before .before .before .before .before .before .before .pre .0 .ready .noted
 
 returns-2 : tie.Need-returns-2
 returns-2 c pool name meant other =
-    let s = c .before .before .before .before .before .before .before .before .before in
+    let s = c .before .before .before .before .before .before .before .before .before .before .before .before .before .before in
     let table = s .args .table .now in
     let scope = scopeOf (nodes table pool) (s .args .path .now) in
     let r = s .args .declaration .0 in
-    let d = c .before .nearest .result .0 in
+    let d = c .before .before .before .nearest .result .0 in
     let prefix = nodeAt table pool r .local .bytes in
-    let near = c .before .nearest .ensures pool prefix (rw (← c .before .before .before .note2 .ensures) at (meant-too meant (local-names meant r (s .pre .1 .0)))) in
-    serves-by meant scope r (s .pre .1 .0) (s .pre .1 .1) _ (c .before .before .before .note2 .ensures) _ (c .before .before .before .before .before .note .ensures) (c .before .before .before .before .if1 .taken) (c .before .before .if2 .left) other _
-    (value-asked meant d (λ within. scope-declaration table pool d within (declares prefix) (s .args .path .now) near) _ (c .value-of .ensures)
+    let near = c .before .before .before .nearest .ensures pool prefix (rw (← c .before .before .before .before .before .before .name2 .ensures) at (meant-too meant (local-names meant r (s .pre .1 .0)))) in
+    serves-by meant scope r (s .pre .1 .0) (s .pre .1 .1) _ (c .before .before .before .before .before .before .name2 .ensures) _ (c .before .before .before .before .before .before .before .before .before .before .name .ensures) (c .before .before .before .before .before .before .before .if1 .taken) (c .before .before .before .before .if2 .left) other _
+    (value-asked meant d (λ within. scope-declaration table pool d within (declares prefix) (s .args .path .now) near) _ (c .before .before .value-of .ensures)
     ∙ ap (λ o. sameBytes (uriBytes (orUnbound (valueOf o))) name) near)
 
 returns-3 : tie.Need-returns-3
 returns-3 c pool name meant other =
-    let s = c .before .before .before .before .before in
-    serves-other meant _ _ (s .pre .1 .0) (s .pre .1 .1) _ (c .before .note .ensures) (c .if1 .left)
+    let s = c .before .before .before .before .before .before .before in
+    serves-other meant _ _ (s .pre .1 .0) (s .pre .1 .1) _ (c .before .before .before .name .ensures) (c .if1 .left)
 
 pub serves-spec : {M : Type 1} → statement M
 serves-spec =
     tie.close
     (tie.spec
-    note-requires
-    note-requires-2
+    name-requires
+    name-requires-2
     returns
     nearest-requires
     value-of-requires

@@ -17,11 +17,11 @@ use Rattle.declarations.proofs.serving.Statement.{statement}
 use Rattle.declarations.proofs.serving.Tie as tie
 
 abbrev Inv-loop : tie.InvT-loop
-Inv-loop table notes path uri i₀ i =
-    (pool name : List ℕ) → Meant table pool notes uri name → sameBytes name xmlUri ≡ false → Searching table pool path (serves (scopeOf (nodes table pool) path) name) i
+Inv-loop table notes path wanted i₀ i =
+    (pool name : List ℕ) → Meant table pool notes wanted name → sameBytes name xmlUri ≡ false → Searching table pool path (serves (scopeOf (nodes table pool) path) name) i
 
 abbrev μ-loop : tie.MeasureT-loop
-μ-loop table notes path uri i₀ i = length path - i
+μ-loop table notes path wanted i₀ i = length path - i
 
 loop-holds : tie.Need-loop-holds Inv-loop μ-loop
 loop-holds c pool name meant other = searching-first _ _ _ _

@@ -12,8 +12,8 @@ use Rattle.declarations.proofs.value_of.Tie as tie
 has-row-requires : tie.Need-has-row-requires
 has-row-requires c κs = search needs
 
-note-requires : tie.Need-note-requires
-note-requires c κs =
+name-requires : tie.Need-name-requires
+name-requires c κs =
     let s = c .before .before .before .before in
     let within = ltb-true (s .args .declaration .0) (rowCount (s .args .table .now)) (sym (c .before .has-row .ensures) ∙ c .if1 .taken) in
     omega (arith, within, s .pre)
@@ -21,7 +21,7 @@ note-requires c κs =
 returns : tie.Need-returns
 returns c =
     let s = c .before .before .before .before .before in
-    c .note .ensures ∙ value-here (s .args .table .now) (s .args .notes .now) (s .args .declaration .0) (sym (c .before .before .has-row .ensures) ∙ c .before .if1 .taken)
+    c .name .ensures ∙ value-here (s .args .table .now) (s .args .notes .now) (s .args .declaration .0) (sym (c .before .before .has-row .ensures) ∙ c .before .if1 .taken)
 
 returns-2 : tie.Need-returns-2
 returns-2 c =
@@ -29,4 +29,4 @@ returns-2 c =
     value-missing (s .args .table .now) (s .args .notes .now) (s .args .declaration .0) (sym (c .before .has-row .ensures) ∙ c .if1 .left)
 
 pub value-of-spec : {M : Type 1} → statement M
-value-of-spec = tie.close (tie.spec has-row-requires note-requires returns returns-2)
+value-of-spec = tie.close (tie.spec has-row-requires name-requires returns returns-2)

@@ -20,11 +20,11 @@ use Rattle.outward.proofs.deciding.Statement.{statement}
 use Rattle.outward.proofs.deciding.Tie as tie
 
 abbrev Inv-loop : tie.InvT-loop
-Inv-loop table notes path prefix left₀ left =
-    Along table notes left × ((pool name : List ℕ) → Meant table pool notes prefix name → (ordinary : Ordinary name) → Left table pool path (uriLookup (nodes table pool) name ordinary) left)
+Inv-loop table notes path wanted left₀ left =
+    Along table notes left × ((pool name : List ℕ) → Meant table pool notes wanted name → (ordinary : Ordinary name) → Left table pool path (uriLookup (nodes table pool) name ordinary) left)
 
 abbrev μ-loop : tie.MeasureT-loop
-μ-loop table notes path prefix left₀ left = length left
+μ-loop table notes path wanted left₀ left = length left
 
 loop-holds : tie.Need-loop-holds Inv-loop μ-loop
 loop-holds c = (c .before .before .before .pre, λ pool name meant ordinary. left-first _ _ _ _)

@@ -15,8 +15,8 @@ has-row-requires c κs = search needs
 kind-requires : tie.Need-kind-requires
 kind-requires c κs = ltb-true _ _ (sym (c .before .has-row .ensures) ∙ c .if1 .taken)
 
-note-requires : tie.Need-note-requires
-note-requires c κs =
+name-requires : tie.Need-name-requires
+name-requires c κs =
     let s = c .before .before .before .before .before .before in
     let within = ltb-true (s .args .row .0) (rowCount (s .args .table .now)) (sym (c .before .before .before .has-row .ensures) ∙ c .before .before .if1 .taken) in
     omega (arith, within, s .pre)
@@ -24,11 +24,11 @@ note-requires c κs =
 returns : tie.Need-returns
 returns c =
     let s = c .before .before .before .before .before .before .before in
-    c .note .ensures
+    c .name .ensures
     ∙ number-value (s .args .table .now) (s .args .notes .now) (s .args .row .0) (sym (c .before .before .before .before .has-row .ensures) ∙ c .before .before .before .if1 .taken) _ (c .before .before .kind .ensures) (c .before .if2 .taken)
 
-note-requires-2 : tie.Need-note-requires-2
-note-requires-2 c κs =
+name-requires-2 : tie.Need-name-requires-2
+name-requires-2 c κs =
     let s = c .before .before .before .before .before .before in
     let within = ltb-true (s .args .row .0) (rowCount (s .args .table .now)) (sym (c .before .before .before .has-row .ensures) ∙ c .before .before .if1 .taken) in
     omega (arith, within, s .pre)
@@ -36,7 +36,7 @@ note-requires-2 c κs =
 returns-2 : tie.Need-returns-2
 returns-2 c =
     let s = c .before .before .before .before .before .before .before in
-    c .note2 .ensures
+    c .name2 .ensures
     ∙ number-uri (s .args .table .now) (s .args .notes .now) (s .args .row .0) (sym (c .before .before .before .before .has-row .ensures) ∙ c .before .before .before .if1 .taken) _ (c .before .before .kind .ensures) (c .before .if2 .left)
 
 returns-3 : tie.Need-returns-3
@@ -50,8 +50,8 @@ uri-number-spec =
     (tie.spec
     has-row-requires
     kind-requires
-    note-requires
+    name-requires
     returns
-    note-requires-2
+    name-requires-2
     returns-2
     returns-3)

@@ -28,26 +28,26 @@ uri-number-requires c κs = c .before .before .before .before .before .before .b
 
 returns-3 : tie.Need-returns-3
 returns-3 c pool meant =
-    decided-none meant _ _ (c .before .uri-number .ensures) (c .if3 .taken) ∙ ap bound (c .before .before .deciding .ensures pool _ meant (record { notXml = sym (c .before .before .before .before .before .before .is-xml .ensures) ∙ c .before .before .before .before .before .if1 .left; notXmlns = sym (c .before .before .before .before .is-xmlns .ensures) ∙ c .before .before .before .if2 .left }))
+    decided-none meant _ _ (c .before .before .uri-number .ensures) (c .if3 .taken) ∙ ap bound (c .before .before .before .deciding .ensures pool _ meant (record { notXml = sym (c .before .before .before .before .before .before .before .is-xml .ensures) ∙ c .before .before .before .before .before .before .if1 .left; notXmlns = sym (c .before .before .before .before .before .is-xmlns .ensures) ∙ c .before .before .before .before .if2 .left }))
 
 kind-requires : tie.Need-kind-requires
-kind-requires c κs = number-within _ _ _ (λ z. c .if3 .left (c .before .uri-number .ensures ∙ z))
+kind-requires c κs = number-within _ _ _ (λ z. c .if3 .left (c .before .before .uri-number .ensures ∙ z))
 
 place-requires : tie.Need-place-requires
-place-requires c κs = (number-within _ _ _ (λ z. c .before .before .if3 .left (c .before .before .before .uri-number .ensures ∙ z)), omega arith)
+place-requires c κs = (number-within _ _ _ (λ z. c .before .before .if3 .left (c .before .before .before .before .uri-number .ensures ∙ z)), omega arith)
 
 returns-4 : tie.Need-returns-4
 returns-4 c pool meant =
-    decided-value meant _ _ (c .before .before .before .before .uri-number .ensures) (c .before .before .before .if3 .left) (sym (c .before .before .kind .ensures) ∙ c .before .if4 .taken) _ (c .place .ensures)
-    ∙ ap bound (c .before .before .before .before .before .deciding .ensures pool _ meant (record { notXml = sym (c .before .before .before .before .before .before .before .before .before .is-xml .ensures) ∙ c .before .before .before .before .before .before .before .before .if1 .left; notXmlns = sym (c .before .before .before .before .before .before .before .is-xmlns .ensures) ∙ c .before .before .before .before .before .before .if2 .left }))
+    decided-value meant _ _ (c .before .before .before .before .before .uri-number .ensures) (c .before .before .before .if3 .left) (sym (c .before .before .kind .ensures) ∙ c .before .if4 .taken) _ (c .place .ensures)
+    ∙ ap bound (c .before .before .before .before .before .before .deciding .ensures pool _ meant (record { notXml = sym (c .before .before .before .before .before .before .before .before .before .before .is-xml .ensures) ∙ c .before .before .before .before .before .before .before .before .before .if1 .left; notXmlns = sym (c .before .before .before .before .before .before .before .before .is-xmlns .ensures) ∙ c .before .before .before .before .before .before .before .if2 .left }))
 
 place-requires-2 : tie.Need-place-requires-2
-place-requires-2 c κs = (number-within _ _ _ (λ z. c .before .before .if3 .left (c .before .before .before .uri-number .ensures ∙ z)), omega arith)
+place-requires-2 c κs = (number-within _ _ _ (λ z. c .before .before .if3 .left (c .before .before .before .before .uri-number .ensures ∙ z)), omega arith)
 
 returns-5 : tie.Need-returns-5
 returns-5 c pool meant =
-    decided-uri meant _ _ (c .before .before .before .before .uri-number .ensures) (c .before .before .before .if3 .left) (λ is. c .before .if4 .left (c .before .before .kind .ensures ∙ is)) _ (c .place2 .ensures)
-    ∙ ap bound (c .before .before .before .before .before .deciding .ensures pool _ meant (record { notXml = sym (c .before .before .before .before .before .before .before .before .before .is-xml .ensures) ∙ c .before .before .before .before .before .before .before .before .if1 .left; notXmlns = sym (c .before .before .before .before .before .before .before .is-xmlns .ensures) ∙ c .before .before .before .before .before .before .if2 .left }))
+    decided-uri meant _ _ (c .before .before .before .before .before .uri-number .ensures) (c .before .before .before .if3 .left) (λ is. c .before .if4 .left (c .before .before .kind .ensures ∙ is)) _ (c .place2 .ensures)
+    ∙ ap bound (c .before .before .before .before .before .before .deciding .ensures pool _ meant (record { notXml = sym (c .before .before .before .before .before .before .before .before .before .before .is-xml .ensures) ∙ c .before .before .before .before .before .before .before .before .before .if1 .left; notXmlns = sym (c .before .before .before .before .before .before .before .before .is-xmlns .ensures) ∙ c .before .before .before .before .before .before .before .if2 .left }))
 
 pub uri-of-prefix-spec : {M : Type 1} → statement M
 uri-of-prefix-spec =
