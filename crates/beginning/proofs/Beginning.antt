@@ -15,6 +15,7 @@ use Rattle.rules.specs.Table.{MOST-ROWS, rowCount}
 use Rattle.rules.specs.Refusals.{checked}
 use Rattle.rules.specs.Lookups.{lookupRefusal}
 use Rattle.rules.specs.declared.Refusal.{Refusal}
+use Rattle.rules.specs.declared.NameId.{NameId}
 use Rattle.rules.specs.declared.Checked.{Checked}
 use Rattle.rules.proofs.Lists.{by-cases}
 use Rattle.rules.proofs.Accepted.{accepted, few-rows}
@@ -26,7 +27,7 @@ use Rattle.checker.proofs.Lending.{zeros-lent}
 use Rattle.ancestors.specs.Paths.{Element, PathOf}
 use Rattle.scopes.specs.Standing.{Linked}
 use Rattle.declarations.specs.Along.{Along}
-use Rattle.beginning.specs.Ground.{Blank, Unlinked, Ground}
+use Rattle.beginning.specs.Ground.{Blank, Unlinked, Ground, Begins}
 use Rattle.beginning.specs.declared.Begun.{Begun}
 use Rattle.beginning.proofs.Refused.{admitted}
 
@@ -54,9 +55,7 @@ module _ (table pool : List ℕ) (r : ℕ) (name : List ℕ) where
   -- What begin answers.
   module _ (notes : List ℕ) where
     pub begun-refused :
-        (x : Refusal) → lookupRefusal table pool r ≡ some x
-        → ((n : ℕ) → Begun.Refused x ≡ Begun.Asked n → Ground table pool r notes n name)
-        × ((y : Refusal) → Begun.Refused x ≡ Begun.Refused y → lookupRefusal table pool r ≡ some y)
+        (x : Refusal) → lookupRefusal table pool r ≡ some x → Begins table pool r notes name (Begun.Refused x)
     begun-refused x is = (λ n e. let bad : true ≡ false = cc in absurd (true≢false bad), λ y e. let same : x ≡ y = cc in is ∙ ap some same)
 
   module _ (before notes dictionary : List ℕ) (is : checked table pool ≡ Checked.Accepted) (named : Named table pool dictionary notes) where
@@ -65,12 +64,11 @@ module _ (table pool : List ℕ) (r : ℕ) (name : List ℕ) where
 
     pub begun-asked :
         Blank table before → length notes ≡ length before → ((q k : ℕ) → LATEST ≤ k → k < NOTES → noteAt notes q k ≡ noteAt before q k) → r < rowCount table
-        → (k : ℕ) → ((n : ℕ) (bytes : List ℕ) → Names (spelling dictionary pool) (lastOf dictionary) n bytes → eqb n k ≡ sameBytes bytes name)
-        → ((n : ℕ) → Begun.Asked k ≡ Begun.Asked n → Ground table pool r notes n name)
-        × ((y : Refusal) → Begun.Asked k ≡ Begun.Refused y → lookupRefusal table pool r ≡ some y)
+        → (k : NameId) → ((n : ℕ) (bytes : List ℕ) → Names (spelling dictionary pool) (lastOf dictionary) n bytes → eqb n (k .0) ≡ sameBytes bytes name)
+        → Begins table pool r notes name (Begun.Asked k)
     begun-asked blank size kept within k asked = (
       λ n e. let same : k ≡ n = cc in
-          subst (λ (j : ℕ). Ground table pool r notes j name) same
+          subst (λ (j : NameId). Ground table pool r notes (j .0) name) same
           (record {
             unrefused = admitted table pool r is within;
             within = within;

@@ -3,38 +3,44 @@
 // declarations, and the elements from the row's start element outward.
 ghost use mathlib.Core.Path.{_≡_};
 ghost use mathlib.Core.List.{List};
-ghost use mathlib.Core.Option.{some};
 ghost use Prim.Native.Nat.{ℕ, _≤_, _<_};
 ghost use lib.ListN.{length, take};
 ghost use Rattle.rules.specs.Table.{nodes, rowCount};
-ghost use Rattle.rules.specs.Lookups.{lookupElements, lookupRefusal};
-ghost use Rattle.rules.specs.declared.Refusal.{Refusal};
+ghost use Rattle.rules.specs.Lookups.{lookupElements};
 ghost use Rattle.scopes.specs.Standing.{Relinked};
-ghost use Rattle.checker.specs.Lent.{Lent};
+ghost use Rattle.checker.specs.Lent.{FEW-ROWS, Lent};
 ghost use Rattle.declarations.specs.Along.{Along};
-ghost use Rattle.beginning.specs.Ground.{Blank, Unlinked, Ground};
-ghost use Rattle.beginning.specs.declared.Begun.{Begun};
+ghost use Rattle.beginning.specs.Ground.{Blank, Unlinked, Begins};
 use rules::Checked;
+use rules::NameId;
 use rules::Refusal;
 use rules::Row;
 
 // The number of the name that is asked for, or a refusal.
 pub enum Begun {
-    Asked(u16),
+    Asked(NameId),
     Refused(Refusal),
 }
 
 // Checks the table, whose rows get the numbers of their names, and looks for the row and for the name.
 pub fn begin(table: &[u32], pool: &[u8], row: Row, name: &[u8], notes: &mut [u16]) -> Begun
     requires { ⌜ Blank (now table) (now notes) ⌝ }
-    ensures { λ r. ⌜ ((number : ℕ) → r ≡ Begun.Asked number → Ground (now (table .entry)) (now (pool .entry)) (row .0) (now (notes .exit)) number (now (name .entry))) ⌝ }
-    ensures { λ r. ⌜ ((x : Refusal) → r ≡ Begun.Refused x → lookupRefusal (now (table .entry)) (now (pool .entry)) (row .0) ≡ some x) ⌝ }
+    ensures { λ r. ⌜ Begins (now (table .entry)) (now (pool .entry)) (row .0) (now (notes .exit)) (now (name .entry)) r ⌝ }
 {
     if rows::row_count(table) <= checker::FEW_ROWS {
-        let mut dictionary = [0; checker::SMALL_DICTIONARY];
-        return begin_in(table, pool, row, name, &mut dictionary, notes);
+        return begin_few(table, pool, row, name, notes);
     }
     let mut dictionary = [0; checker::DICTIONARY];
+    begin_in(table, pool, row, name, &mut dictionary, notes)
+}
+
+// The same for a small table.
+pub fn begin_few(table: &[u32], pool: &[u8], row: Row, name: &[u8], notes: &mut [u16]) -> Begun
+    requires { ⌜ rowCount (now table) ≤ FEW-ROWS ⌝ }
+    requires { ⌜ Blank (now table) (now notes) ⌝ }
+    ensures { λ r. ⌜ Begins (now (table .entry)) (now (pool .entry)) (row .0) (now (notes .exit)) (now (name .entry)) r ⌝ }
+{
+    let mut dictionary = [0; checker::SMALL_DICTIONARY];
     begin_in(table, pool, row, name, &mut dictionary, notes)
 }
 
@@ -49,8 +55,7 @@ fn begin_in(
 ) -> Begun
     requires { ⌜ Blank (now table) (now notes) ⌝ }
     requires { ⌜ Lent (now table) (now dictionary) (now notes) ⌝ }
-    ensures { λ r. ⌜ ((number : ℕ) → r ≡ Begun.Asked number → Ground (now (table .entry)) (now (pool .entry)) (row .0) (now (notes .exit)) number (now (name .entry))) ⌝ }
-    ensures { λ r. ⌜ ((x : Refusal) → r ≡ Begun.Refused x → lookupRefusal (now (table .entry)) (now (pool .entry)) (row .0) ≡ some x) ⌝ }
+    ensures { λ r. ⌜ Begins (now (table .entry)) (now (pool .entry)) (row .0) (now (notes .exit)) (now (name .entry)) r ⌝ }
 {
     let verdict = checker::check_numbered(table, pool, dictionary, notes);
     match verdict {

@@ -11,21 +11,29 @@ use Rattle.rules.specs.Lists.{isEmpty}
 use Rattle.rules.specs.Table.{MOST-ROWS, NONE, Node, nodes, rowCount}
 use Rattle.rules.specs.Lookups.{Binding, unbound, orUnbound, uriOfPrefix, prefixAmong, prefixOfUri, scopeOf, inScopeUri, inScopePrefix, bound, lookupElements, ifStarted, findings, lookupRefusal, lookupAt}
 use Rattle.rules.specs.declared.Refusal.{Refusal}
+use Rattle.rules.specs.declared.NameId.{NameId}
 use Rattle.rules.specs.declared.Question.{Question}
 use Rattle.rules.specs.declared.Bound.{Bound}
 use Rattle.rules.proofs.Lists.{by-cases}
 use Rattle.notes.specs.Notes.{NOTES}
-use Rattle.lookups.specs.Lent.{Lent}
+use Rattle.beginning.specs.Ground.{Blank, Begins}
+use Rattle.beginning.specs.declared.Begun.{Begun}
+use Rattle.resolver.specs.Lent.{Way}
 
--- Zeros are notes to lend, and any array of places a path.
-pub arrays : (table : List ℕ) (most : ℕ) → (rowCount table ≤ MOST-ROWS → rowCount table ≤ most) → Lent table (replicate (NOTES * most) 0) (replicate most NONE)
-arrays table most few =
+-- Zeros are notes to lend.
+pub notes-lent : (table : List ℕ) (most : ℕ) → (rowCount table ≤ MOST-ROWS → rowCount table ≤ most) → Blank table (replicate (NOTES * most) 0)
+notes-lent table most few =
     let records = length-replicate {A = ℕ} (NOTES * most) 0 in
+    record { cleared = sym (ap (λ (size : ℕ). replicate size 0) records); records = λ h. rw records (omega (arith, few h)) }
+
+-- Where a lookup has begun, any array of places is a path.
+pub way :
+    (table pool : List ℕ) (r : ℕ) (notes query : List ℕ) (begun : Begun) (most : ℕ) → (rowCount table ≤ MOST-ROWS → rowCount table ≤ most) → Begins table pool r notes query begun
+    → (number : NameId) → begun ≡ Begun.Asked number → Way table r notes (replicate most NONE)
+way table pool r notes query begun most few begins number asked =
+    let ground = begins .0 number asked in
     let places = length-replicate {A = ℕ} most NONE in
-    record {
-      blank = record { cleared = sym (ap (λ (size : ℕ). replicate size 0) records); records = λ h. rw records (omega (arith, few h)) };
-      places = λ h. rw places (few h);
-    }
+    record { unlinked = ground .unlinked; within = ground .within; places = rw places (few (ground .unlinked .few)) }
 
 -- A path of some elements has a start element.
 pub some-elements : (n : ℕ) (path : List ℕ) → n ≤ length path → (n ≡ 0 → ⊥) → 0 < length (take n path)

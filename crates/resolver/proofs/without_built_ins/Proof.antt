@@ -1,10 +1,10 @@
--- `lookups::without_built_ins` meets its contract.
+-- `resolver::without_built_ins` meets its contract.
 -- Assumes nothing.
 use mathlib.Core.Path.{sym, ap}
 use borrow.Author.Needs.{needs}
 use Rattle.rules.specs.Lookups.{withoutBuiltIns}
-use Rattle.lookups.proofs.without_built_ins.Statement.{statement}
-use Rattle.lookups.proofs.without_built_ins.Tie as tie
+use Rattle.resolver.proofs.without_built_ins.Statement.{statement}
+use Rattle.resolver.proofs.without_built_ins.Tie as tie
 
 pub without-built-ins-spec : {M : Type 1} → statement M
 unfolding withoutBuiltIns

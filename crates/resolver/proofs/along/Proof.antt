@@ -1,10 +1,10 @@
--- `lookups::along` meets its contract.
+-- `resolver::along` meets its contract.
 -- Assumes nothing.
 use mathlib.Core.Path.{_∙_}
 use borrow.Author.Needs.{needs}
-use Rattle.lookups.proofs.Going.{uri-found, prefix-found, in-scope-uri-found, in-scope-prefix-found}
-use Rattle.lookups.proofs.along.Statement.{statement}
-use Rattle.lookups.proofs.along.Tie as tie
+use Rattle.resolver.proofs.Going.{uri-found, prefix-found, in-scope-uri-found, in-scope-prefix-found}
+use Rattle.resolver.proofs.along.Statement.{statement}
+use Rattle.resolver.proofs.along.Tie as tie
 
 pub along-spec : {M : Type 1} → statement M
 along-spec =

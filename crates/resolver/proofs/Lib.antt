@@ -1,0 +1,2 @@
+-- Going: the answer of a lookup that has begun.
+pub mod Going
