@@ -27,11 +27,11 @@ use Rattle.notes.specs.Notes as noting
 use Rattle.notes.specs.Notes.{NOTES, noteAt, noted}
 use Rattle.notes.proofs.Laws.{noted-other}
 use Rattle.numbers.specs.Numbers.{Names}
-use Rattle.scopes.specs.Scopes.{nearest, serving, first, Each}
-use Rattle.scopes.proofs.Each.{each-map}
+use Rattle.stacks.specs.Scopes.{nearest, serving, first, Each}
+use Rattle.stacks.proofs.Each.{each-map}
 use Rattle.scopes.proofs.Same.{serving-each}
 use Rattle.scopes.specs.Rows.{scopeRows}
-use Rattle.scopes.specs.Stacks.{TOPS, NUMBERED, underAt, prefixAt, valueAt, On, Held}
+use Rattle.stacks.specs.Stacks.{TOPS, NUMBERED, underAt, prefixAt, valueAt, On, Held}
 use Rattle.scopes.proofs.Answers.{standing-alike, standing-held}
 use Rattle.bindings.specs.Spelled.{Here, numberAt}
 use Rattle.bindings.specs.Asking.{topOf, agrees, elementSettled, attributeSettled, Asked}
@@ -39,7 +39,8 @@ use Rattle.bindings.proofs.Scopes.{same-names}
 use Rattle.bindings.proofs.Deciding as deciding
 use Rattle.bindings.proofs.Free.{inUse, UsedBefore}
 use Rattle.bindings.proofs.Held.{scope-positions}
-use Rattle.repair.specs.Working.{Good, AtAttribute, AtUnserved, AfterAttribute, SameAttributes, endField, prefixed, declaredFor, Named}
+use Rattle.changes.specs.Changes.{Named}
+use Rattle.repair.specs.Working.{Good, AtAttribute, AtUnserved, AfterAttribute, SameAttributes, endField, prefixed, declaredFor}
 use Rattle.repair.proofs.Held.{part, rows-fit, count, part-count, rows-held, noted-row, path-room, asked, element-below, row, here, top-is}
 use Rattle.repair.proofs.Steps.{good-prefixed, good-named, named-attributes, place-of-words}
 

@@ -14,17 +14,18 @@ use Rattle.buffers.specs.Writes.{written, declarationWords}
 use Rattle.buffers.proofs.Meaning.{count-rows}
 use Rattle.notes.specs.Notes as noting
 use Rattle.notes.specs.Notes.{NOTES, noteAt}
-use Rattle.scopes.specs.Scopes.{nearest, differs, serving, first, Each}
+use Rattle.stacks.specs.Scopes.{nearest, differs, serving, first, Each}
 use Rattle.scopes.specs.Rows.{ownerOf, ownRows, outward, scopeRows, SameTree}
-use Rattle.scopes.specs.Stacks.{PREFIXES, topAt, Untouched, prefixAt, valueAt}
+use Rattle.stacks.specs.Stacks.{PREFIXES, topAt, Untouched, prefixAt, valueAt}
 use Rattle.scopes.specs.Standing as standing
 use Rattle.scopes.specs.Standing.{Standing, Linked, Relinked, Ready, Declaring}
-use Rattle.scopes.proofs.Each.{each-map}
+use Rattle.stacks.proofs.Each.{each-map}
 use Rattle.scopes.proofs.Answers.{standing-nearest}
 use Rattle.scopes.proofs.Same.{serving-each}
 use Rattle.scopes.proofs.Changes.{outward-same, own-same, standing-changed}
 use Rattle.bindings.proofs.Held.{scope-positions}
-use Rattle.repair.specs.Working.{Good, SameAttributes, notedFor, AtTop, declaredFor}
+use Rattle.changes.specs.Changes.{notedFor}
+use Rattle.repair.specs.Working.{Good, SameAttributes, AtTop, declaredFor}
 use Rattle.repair.proofs.Held.{rows-fit, part-count, parent-word}
 use Rattle.repair.proofs.Changed.{numbers-relinked, for-other, for-local, for-value}
 use Rattle.repair.proofs.Steps.{Appended, appended, appended-attributes}

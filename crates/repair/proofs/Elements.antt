@@ -22,8 +22,8 @@ use Rattle.notes.specs.Notes as noting
 use Rattle.notes.specs.Notes.{noteAt}
 use Rattle.numbers.specs.Numbers.{Names}
 use Rattle.numbers.proofs.Laws.{same-number}
-use Rattle.scopes.specs.Scopes.{nearest}
-use Rattle.scopes.specs.Stacks.{prefixAt, valueAt}
+use Rattle.stacks.specs.Scopes.{nearest}
+use Rattle.stacks.specs.Stacks.{prefixAt, valueAt}
 use Rattle.bindings.specs.Spelled.{Declares, Here, rowAt}
 use Rattle.bindings.specs.Asking.{topOf, elementSettled, Asked, ownTop}
 use Rattle.bindings.proofs.Scopes.{nearest-some}

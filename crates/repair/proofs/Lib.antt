@@ -1,7 +1,6 @@
--- Writes: what the writes read and leave. Held: what good buffers hold. Changed: the numbers after a write. Steps: good buffers after
+-- Held: what good buffers hold. Changed: the numbers after a write. Steps: good buffers after
 -- a move or a write. Declaring: a new declaration on the path. Own: an element's own declaration. Elements: steps 1 and 2.
 -- Attributes, Unserved: step 3.
-pub mod Writes
 pub mod Held
 pub mod Changed
 pub mod Steps

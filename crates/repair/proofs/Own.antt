@@ -14,11 +14,12 @@ use Rattle.notes.specs.Notes as noting
 use Rattle.notes.specs.Notes.{NOTES, noteAt, noted}
 use Rattle.notes.proofs.Laws.{noted-other}
 use Rattle.scopes.specs.Rows.{up}
-use Rattle.scopes.specs.Stacks.{Untouched}
+use Rattle.stacks.specs.Stacks.{Untouched}
 use Rattle.scopes.specs.Standing.{Standing, Linked, Relinked, Ready}
 use Rattle.scopes.proofs.Reading.{up-falls}
 use Rattle.rules.proofs.Scope.{node-set-other, node-append}
-use Rattle.repair.specs.Working.{Good, AtElement, After, SameAttributes, notedFor, valued, declaredFor}
+use Rattle.changes.specs.Changes.{notedFor}
+use Rattle.repair.specs.Working.{Good, AtElement, After, SameAttributes, valued, declaredFor}
 use Rattle.repair.proofs.Held.{part, rows-fit, count, part-count, parent-word, noted-row, ready, element-below}
 use Rattle.repair.proofs.Steps.{good-moved, good-valued, place-of-words, Appended, appended, appended-attributes}
 use Rattle.repair.proofs.Declaring.{good-linked, relinked-attributes}

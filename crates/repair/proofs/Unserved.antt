@@ -22,10 +22,10 @@ use Rattle.notes.proofs.Laws.{noted-same, noted-other}
 use Rattle.chains.proofs.Laws.{latest-within}
 use Rattle.numbers.specs.Numbers.{Names}
 use Rattle.numbers.proofs.Laws.{found-names}
-use Rattle.scopes.specs.Scopes.{serving, first}
+use Rattle.stacks.specs.Scopes.{serving, first}
 use Rattle.scopes.specs.Rows.{scopeRows, SameTree}
-use Rattle.scopes.specs.Stacks.{NUMBERED, PREFIXES, topAt, underAt, prefixAt, valueAt}
-use Rattle.scopes.proofs.Each.{each-map}
+use Rattle.stacks.specs.Stacks.{NUMBERED, PREFIXES, topAt, underAt, prefixAt, valueAt}
+use Rattle.stacks.proofs.Each.{each-map}
 use Rattle.scopes.proofs.Same.{serving-each}
 use Rattle.scopes.proofs.Answers.{standing-alike, standing-nearest}
 use Rattle.scopes.proofs.Changes.{standing-numbered}
@@ -34,7 +34,8 @@ use Rattle.bindings.specs.Asking.{topOf, Asked, isUsed, Searched, LeastUnused}
 use Rattle.bindings.proofs.Deciding as deciding
 use Rattle.bindings.proofs.Free.{inUse, UsedBefore, not-below, not-before, least-is, noted-use}
 use Rattle.bindings.proofs.Held.{scope-positions}
-use Rattle.repair.specs.Working.{Good, AtAttribute, AtUnserved, AtTop, AfterAttribute, SameAttributes, isFree, endField, prefixed, declaredFor, Named, numberFor, pathFor}
+use Rattle.changes.specs.Changes.{isFree, Named, numberFor, pathFor}
+use Rattle.repair.specs.Working.{Good, AtAttribute, AtUnserved, AtTop, AfterAttribute, SameAttributes, endField, prefixed, declaredFor}
 use Rattle.repair.proofs.Held.{part, count, part-count, noted-row, element-below, top-is}
 use Rattle.repair.proofs.Changed.{same-tree, numbers-named, named-new}
 use Rattle.repair.proofs.Steps.{good-named, core-set, prefix-core}

@@ -1,29 +1,26 @@
 -- The working buffers: a table of which the first rows count, a pool of which the first bytes do, the notes of the rows, and the
 -- arrays of the path of scopes; and what a step of normalization leaves in them.
 use Prim.Native.Nat.{ℕ, _+_, _-_, _*_, _≤_, _<_}
-use mathlib.Core.Bool.{Bool, true, false, cond, _&&_, not}
+use mathlib.Core.Bool.{true, false}
 use mathlib.Core.List.{List, [], _∷_, _++_}
 use mathlib.Core.Path.{_≡_}
 use lib.ListN.{length, take, set}
-use lib.Dec.{eqb}
 use Rattle.rules.specs.Lists.{allOf, sameBytes}
 use Rattle.rules.specs.Table.{WIDTH, MOST-ROWS, ELEMENT, DECLARATION, xmlPrefix, xmlUri, Field, Node, nodes, node, words}
-use Rattle.rules.specs.Table as Table
 use Rattle.rules.specs.Lookups.{scopeAt}
-use Rattle.buffers.specs.Writes.{written, placed}
 use Rattle.rules.specs.Normalization.{numberedPrefix, State, newDeclaration, withValue, withPrefix, repairElement, isAttributeOf}
 use Rattle.rules.proofs.Accepted.{NamespaceAccepted, Plain}
 use Rattle.rules.proofs.Unique.{Unique}
 use Rattle.rules.proofs.Result.{fitsIn}
 use Rattle.rules.proofs.Passable.{isPassable}
-use Rattle.notes.specs.Notes.{NOTES, PREFIX, LOCAL-NAME, URI, VALUE, FIRST, noteAt, noted}
+use Rattle.notes.specs.Notes.{NOTES, PREFIX, URI, FIRST, noteAt}
 use Rattle.numbers.specs.Numbers.{Names, Spelling, numberIn}
 use Rattle.numbers.specs.Noted.{NodeNumbered}
-use Rattle.scopes.specs.Scopes.{serving, first}
+use Rattle.stacks.specs.Scopes.{serving, first}
 use Rattle.scopes.specs.Rows.{scopeRows, Tree}
-use Rattle.scopes.specs.Stacks.{TOPS, NUMBERED, PREFIXES, topAt, underAt, prefixAt, valueAt}
+use Rattle.stacks.specs.Stacks.{TOPS, NUMBERED, PREFIXES, topAt, underAt, prefixAt, valueAt}
 use Rattle.scopes.specs.Standing.{Standing, Linked}
-use Rattle.bindings.specs.Asking.{topOf, attributeSettled}
+use Rattle.bindings.specs.Asking.{attributeSettled}
 use Rattle.bindings.proofs.Free.{UsedBefore}
 
 -- What the table and the pool mean.
@@ -100,11 +97,6 @@ pub record After (before table pool notes tops path : List ℕ) (rows bytes name
   pub spare : rows ≤ limit → Spare tops rows names limit
   pub attributes : SameAttributes before notes
 
--- The notes of a new declaration for row r: of its prefix, as its URI.
-unfoldable pub notedFor : List ℕ → ℕ → ℕ → List ℕ
-notedFor notes new r =
-    noted (noted (noted (noted notes new PREFIX 0) new LOCAL-NAME (noteAt notes r PREFIX)) new URI 0) new VALUE (noteAt notes r URI)
-
 -- An element at which the path stands.
 pub record AtElement (table pool notes tops path : List ℕ) (rows bytes names limit e : ℕ) : Type 0 where
   pub state : State
@@ -175,17 +167,6 @@ pub record AtUnserved (table pool notes tops path : List ℕ) (rows bytes names 
   pub notXml : sameBytes (node (at .state .rows) a .uri .bytes) xmlUri ≡ false
   pub unserved : first (serving (prefixAt notes) (valueAt notes) (scopeRows (take (WIDTH * rows) table) (at .owner + 1)) (noteAt notes a URI)) ≡ 0
 
--- Its prefix is not empty, and is not declared in scope.
-abbrev pub isFree : List ℕ → List ℕ → ℕ → Bool
-isFree notes tops a = not (eqb (noteAt notes a PREFIX) 0) && eqb (topOf notes tops a) 0
-
--- The number of NSk, the next one where it has none, and the path with that noted.
-abbrev pub numberFor : List ℕ → ℕ → ℕ → ℕ
-numberFor path k names = cond (eqb (underAt path NUMBERED k) 0) (names + 1) (underAt path NUMBERED k)
-
-abbrev pub pathFor : List ℕ → ℕ → ℕ → List ℕ
-pathFor path k names = cond (eqb (underAt path NUMBERED k) 0) (set path (4 * k + NUMBERED) (names + 1)) path
-
 -- The field at the end of the pool.
 abbrev pub endField : State → List ℕ → Field
 endField s bytes = record { offset = length (s .pool); size = length bytes; bytes = bytes }
@@ -195,10 +176,3 @@ pub record AfterAttribute (before table pool notes tops path : List ℕ) (rows b
   pub after : After before table pool notes tops path rows bytes names limit (e + 1) made
   pub one : 1 ≤ free
   pub used : UsedBefore (scopeAt (made .rows) e) free
-
--- The name stands behind the bytes of the pool that counted, row a has it as its prefix, and its number, and so many bytes count now.
-pub record Named (table table′ pool pool′ notes notes′ : List ℕ) (a bytes grown number : ℕ) (name : List ℕ) : Type 0 where
-  pub prefix : table′ ≡ placed table a Table.PREFIX (record { offset = record { 0 = bytes }; length = length name })
-  pub appended : pool′ ≡ written pool bytes name
-  pub numbered : notes′ ≡ noted notes a PREFIX number
-  pub size : grown ≡ bytes + length name

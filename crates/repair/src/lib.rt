@@ -8,12 +8,12 @@ ghost use Prim.Native.Nat.{ℕ, _+_, _≤_, _<_, max};
 ghost use lib.ListN.{length};
 ghost use Rattle.rules.specs.Table.{node};
 ghost use Rattle.rules.specs.Normalization.{repairAttribute};
-ghost use Rattle.repair.specs.Working.{Good, AtElement, AtAttribute, AtOwn, Undeclared, AtTop, AtUnserved, SameAttributes, After, AfterAttribute, isFree, elementStep, valued, declaredFor};
+ghost use Rattle.changes.specs.Changes.{isFree};
+ghost use Rattle.repair.specs.Working.{Good, AtElement, AtAttribute, AtOwn, Undeclared, AtTop, AtUnserved, SameAttributes, After, AfterAttribute, elementStep, valued, declaredFor};
+use rules::Position;
 use rules::Row;
 
-mod changes;
-
-// How many rows of the table and bytes of the pool count, the last number of a name, the NS number that
+// How many rows of the table and bytes of the pool count, how many names have numbers, the NS number that
 // the search goes on from, and how many rows are allowed.
 pub struct Sizes {
     pub rows: usize,
@@ -41,8 +41,8 @@ pub fn repair_element(
         return rows;
     }
     let own = bindings::own_declaration(&table[..rules::WIDTH * rows], notes, tops, element);
-    if own > 0 {
-        set_own(table, notes, tops, path, element, scopes::row_at(own), rows);
+    if own.0 > 0 {
+        set_own(table, notes, tops, path, element, notes::row_at(own), rows);
         return rows;
     }
     append_own(table, notes, tops, path, element, rows, limit)
@@ -63,9 +63,21 @@ fn set_own(
     ensures { λ _. ⌜ SameAttributes (now (notes .entry)) (now (notes .exit)) ⌝ }
 {
     let position = element.0 as u16 + 1;
-    scopes::leave(&table[..rules::WIDTH * rows], notes, tops, path, position);
+    scopes::leave(
+        &table[..rules::WIDTH * rows],
+        notes,
+        tops,
+        path,
+        Position(position),
+    );
     changes::set_value(table, notes, element, declaration, rows);
-    scopes::enter(&table[..rules::WIDTH * rows], notes, tops, path, position);
+    scopes::enter(
+        &table[..rules::WIDTH * rows],
+        notes,
+        tops,
+        path,
+        Position(position),
+    );
 }
 
 // Appends a declaration of an element's prefix as its URI. Answers how many rows there are then, one more
@@ -86,11 +98,17 @@ fn append_own(
         return limit + 1;
     }
     let position = element.0 as u16 + 1;
-    scopes::leave(&table[..rules::WIDTH * rows], notes, tops, path, position);
+    scopes::leave(
+        &table[..rules::WIDTH * rows],
+        notes,
+        tops,
+        path,
+        Position(position),
+    );
     changes::write_declaration(table, notes, element, element, rows);
     let words = &table[..rules::WIDTH * (rows + 1)];
     scopes::link(words, notes, Row(rows as u32));
-    scopes::enter(words, notes, tops, path, position);
+    scopes::enter(words, notes, tops, path, Position(position));
     rows + 1
 }
 
@@ -114,7 +132,7 @@ fn append_on_top(
         notes,
         tops,
         path,
-        owner.0 as u16 + 1,
+        Position(owner.0 as u16 + 1),
     );
 }
 
@@ -148,10 +166,10 @@ pub fn repair_attribute(
             limit: sizes.limit,
         };
     }
-    let uri = notes::note(notes, attribute, notes::URI);
-    let found = scopes::stacks::serving(notes, tops, path, uri);
-    if found > 0 {
-        changes::take_prefix(table, notes, attribute, scopes::row_at(found), rows);
+    let uri = notes::name(notes, attribute, notes::URI);
+    let found = stacks::serving(notes, tops, path, uri);
+    if found.0 > 0 {
+        changes::take_prefix(table, notes, attribute, notes::row_at(found), rows);
         return sizes;
     }
     declare_attribute(table, pool, notes, tops, path, attribute, sizes)
@@ -219,7 +237,7 @@ fn number_attribute(
     Sizes {
         rows: rows + 1,
         bytes,
-        names: larger(names, number),
+        names: larger(names, number.0),
         free: k,
         limit: sizes.limit,
     }

@@ -2,7 +2,7 @@
 -- Assumes nothing.
 use borrow.Author.Needs.{needs}
 use native.Mathlib.Omega.{arith}
-use Rattle.repair.proofs.Writes.{count-part}
+use Rattle.changes.proofs.Writes.{count-part}
 use Rattle.repair.proofs.Own.{element-small, element-rows, leaves, set-enters, set-done, valued-attributes}
 use Rattle.repair.proofs.set_own.Statement.{statement}
 use Rattle.repair.proofs.set_own.Tie as tie

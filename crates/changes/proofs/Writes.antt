@@ -1,0 +1,73 @@
+-- What the functions that write read and leave.
+-- Assumes nothing.
+use Prim.Native.Nat.{ℕ, _+_, _*_, _≤_, _<_}
+use mathlib.Core.Path.{_≡_, refl, sym, _∙_, ap, ap₂}
+use mathlib.Core.Bool.{_&&_, not}
+use mathlib.Core.List.{List, [], _∷_}
+use native.Mathlib.Omega.{arith}
+use lib.ListN.{length, take, set}
+use lib.Seq.{length-take-le}
+use lib.Dec.{eqb}
+use borrow.Author.Tests.{eq-eqb, ne-eqb}
+use Rattle.rules.specs.Table as Table
+use Rattle.rules.specs.Table.{WIDTH, xmlPrefix, rowCount}
+use Rattle.rules.specs.Normalization.{numberedPrefix}
+use Rattle.rules.specs.declared.Place.{Place}
+use Rattle.buffers.specs.Writes.{written, placed, declarationWords}
+use Rattle.notes.specs.Notes.{PREFIX, LOCAL-NAME, URI, VALUE, noteAt, noted}
+use Rattle.stacks.specs.Stacks.{NUMBERED, PREFIXES, topAt, underAt}
+use Rattle.changes.specs.Changes.{notedFor, Named, isFree, numberFor, pathFor}
+
+-- The part of a buffer that counts.
+pub count-part : (t : List ℕ) (k : ℕ) → k ≤ length t → k ≡ length (take k t)
+count-part t k h = sym (length-take-le k t h)
+
+pub counted : (t : List ℕ) (rows : ℕ) → WIDTH * rows ≤ length t → rowCount (take (WIDTH * rows) t) ≡ rows
+counted t rows h = rw (length-take-le (WIDTH * rows) t h) (omega arith)
+
+pub row-within : (t : List ℕ) (rows r : ℕ) → WIDTH * rows ≤ length t → r < rows → r < rowCount (take (WIDTH * rows) t)
+row-within t rows r h below = rw (counted t rows h) below
+
+-- The four notes of a new declaration.
+pub noted-for :
+    (notes : List ℕ) (new r : ℕ) {p u : ℕ} {a b c d : List ℕ} → p ≡ noteAt notes r PREFIX → u ≡ noteAt notes r URI → a ≡ noted notes new PREFIX 0 → b ≡ noted a new LOCAL-NAME p
+    → c ≡ noted b new URI 0 → d ≡ noted c new VALUE u → d ≡ notedFor notes new r
+unfolding notedFor
+noted-for notes new r prefix uri one two three four = rw (four, three, two, one, prefix, uri) refl
+
+-- The words of a new declaration, by the places that were read.
+pub written-as :
+    (t : List ℕ) (at owner : ℕ) {p p′ u u′ : Place} {t′ : List ℕ} → t′ ≡ written t at (declarationWords owner p u) → p ≡ p′ → u ≡ u′
+    → t′ ≡ written t at (declarationWords owner p′ u′)
+written-as t at owner made prefix uri = made ∙ ap₂ (λ (x y : Place). written t at (declarationWords owner x y)) prefix uri
+
+-- A name behind the pool's bytes, as a prefix.
+pub named-xml :
+    (table pool notes : List ℕ) (a bytes x : ℕ) {table′ pool′ notes′ : List ℕ} {number : ℕ} → pool′ ≡ written pool bytes (120 ∷ 109 ∷ 108 ∷ [])
+    → table′ ≡ placed table a Table.PREFIX (record { offset = record { 0 = bytes }; length = 3 }) → number ≡ x → notes′ ≡ noted notes a PREFIX number
+    → Named table table′ pool pool′ notes notes′ a bytes (bytes + 3) x xmlPrefix
+unfolding xmlPrefix
+named-xml table pool notes a bytes x held made read noted-number =
+    record { prefix = made; appended = held; numbered = noted-number ∙ ap (noted notes a PREFIX) read; size = refl }
+
+pub named-numbered :
+    (table pool notes : List ℕ) (a bytes x k : ℕ) {table′ pool′ notes′ : List ℕ} {n : ℕ} → n ≡ length (numberedPrefix k) → pool′ ≡ written pool bytes (numberedPrefix k)
+    → table′ ≡ placed table a Table.PREFIX (record { offset = record { 0 = bytes }; length = n }) → notes′ ≡ noted notes a PREFIX x
+    → Named table table′ pool pool′ notes notes′ a bytes (bytes + n) x (numberedPrefix k)
+named-numbered table pool notes a bytes x k sized held made noted-number =
+    record {
+      prefix = made ∙ ap (λ (l : ℕ). placed table a Table.PREFIX (record { offset = record { 0 = bytes }; length = l })) sized;
+      appended = held;
+      numbered = noted-number;
+      size = ap (λ (l : ℕ). bytes + l) sized;
+    }
+
+module _ (path : List ℕ) (k names : ℕ) {n : ℕ} (read : n ≡ underAt path NUMBERED k) where
+  pub number-there : 0 < n → (n ≡ numberFor path k names) × (path ≡ pathFor path k names)
+  number-there some? = let other = ne-eqb (underAt path NUMBERED k) 0 (λ z. omega (arith, read)) in (read ∙ rw other refl, rw other refl)
+
+  pub number-next : n ≤ 0 → {path′ : List ℕ} → path′ ≡ set path (4 * k + NUMBERED) (names + 1) → (names + 1 ≡ numberFor path k names) × (path′ ≡ pathFor path k names)
+  number-next none? made = let same = eq-eqb (underAt path NUMBERED k) 0 (omega (arith, read)) in (rw same refl, made ∙ rw same refl)
+
+pub free-read : (notes tops : List ℕ) (a : ℕ) {p t : ℕ} → p ≡ noteAt notes a PREFIX → t ≡ topAt tops PREFIXES p → (not (eqb p 0) && eqb t 0) ≡ isFree notes tops a
+free-read notes tops a read top = rw (top, read) refl

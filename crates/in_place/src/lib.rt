@@ -1,0 +1,129 @@
+// Namespace normalization in place, of the first rows of a table and the first bytes of a working pool, by the
+// limits of a table. Success answers the rows and bytes of the result, which then stand there; what stands
+// behind them is not told.
+ghost use Prim.Native.Nat.{_*_, _≤_};
+ghost use lib.ListN.{take};
+ghost use Rattle.rules.specs.Table.{WIDTH};
+ghost use Rattle.checker.specs.Lent.{FEW-ROWS, Lent as Numbering};
+ghost use Rattle.input.specs.Lent.{Enough, Blank, Prepared};
+ghost use Rattle.normal_form.specs.Result.{RoomFor, Made};
+ghost use Rattle.normal_form.specs.Lent.{Topped};
+use input::Judged;
+use repair::Sizes;
+use rules::Checked;
+use rules::Filled;
+
+// The words and bytes that any result of a small table and its pool has room in.
+pub const FEW_WORDS: usize = rules::WIDTH * 2 * checker::FEW_ROWS;
+
+pub const FEW_BYTES: usize = 4096;
+
+pub const FEW_WORK: usize = FEW_BYTES + 6 * checker::FEW_ROWS;
+
+// Normalizes in place, in arrays for a small table.
+pub fn normalize_few(words: &mut [u32], work: &mut [u8], rows: usize, bytes: usize) -> Filled
+    requires { ⌜ RoomFor (now words) (now work) rows bytes ⌝ }
+    requires { ⌜ rows ≤ FEW-ROWS ⌝ }
+    ensures { λ r. ⌜ Made r (now (words .exit)) (now (work .exit)) (take (WIDTH * rows) (now (words .entry))) (take bytes (now (work .entry))) ⌝ }
+{
+    let mut dictionary = [0; checker::SMALL_DICTIONARY];
+    let mut notes = [0; input::SMALL_NOTES];
+    let mut path = [0; input::SMALL_PATH];
+    let mut tops = [0; normal_form::SMALL_TOPS];
+    normalize_lent(
+        words,
+        work,
+        &mut dictionary,
+        &mut notes,
+        &mut path,
+        &mut tops,
+        rows,
+        bytes,
+    )
+}
+
+// Normalizes in place, in arrays for any table.
+pub fn normalize(words: &mut [u32], work: &mut [u8], rows: usize, bytes: usize) -> Filled
+    requires { ⌜ RoomFor (now words) (now work) rows bytes ⌝ }
+    ensures { λ r. ⌜ Made r (now (words .exit)) (now (work .exit)) (take (WIDTH * rows) (now (words .entry))) (take bytes (now (work .entry))) ⌝ }
+{
+    let mut dictionary = [0; checker::DICTIONARY];
+    let mut notes = [0; input::NOTES];
+    let mut path = [0; input::PATH];
+    let mut tops = [0; normal_form::TOPS];
+    normalize_lent(
+        words,
+        work,
+        &mut dictionary,
+        &mut notes,
+        &mut path,
+        &mut tops,
+        rows,
+        bytes,
+    )
+}
+
+// Normalizes in place, in arrays that are lent.
+fn normalize_lent(
+    words: &mut [u32],
+    work: &mut [u8],
+    dictionary: &mut [u16],
+    notes: &mut [u16],
+    path: &mut [u16],
+    tops: &mut [u16],
+    rows: usize,
+    bytes: usize,
+) -> Filled
+    requires { ⌜ RoomFor (now words) (now work) rows bytes ⌝ }
+    requires { ⌜ Blank rows (now notes) (now path) ⌝ }
+    requires { ⌜ Numbering (take (WIDTH * rows) (now words)) (now dictionary) (now notes) ⌝ }
+    requires { ⌜ Topped rows (now tops) ⌝ }
+    ensures { λ r. ⌜ Made r (now (words .exit)) (now (work .exit)) (take (WIDTH * rows) (now (words .entry))) (take bytes (now (work .entry))) ⌝ }
+{
+    match input::judge(
+        &words[..rules::WIDTH * rows],
+        &work[..bytes],
+        dictionary,
+        notes,
+        path,
+    ) {
+        Judged::Numbered(names) => {
+            normalize_accepted(words, work, notes, path, tops, rows, bytes, names)
+        }
+        Judged::Refused(why) => Filled::Refused(why),
+    }
+}
+
+// Normalizes an input in place that draws none of the refusals of an input.
+fn normalize_accepted(
+    words: &mut [u32],
+    work: &mut [u8],
+    notes: &mut [u16],
+    path: &mut [u16],
+    tops: &mut [u16],
+    rows: usize,
+    bytes: usize,
+    names: u16,
+) -> Filled
+    requires { ⌜ RoomFor (now words) (now work) rows bytes ⌝ }
+    requires { ⌜ Enough rows (now notes) (now path) ⌝ }
+    requires { ⌜ Topped rows (now tops) ⌝ }
+    requires { ⌜ Prepared (take (WIDTH * rows) (now words)) (take bytes (now work)) (now notes) (now path) names ⌝ }
+    ensures { λ r. ⌜ Made r (now (words .exit)) (now (work .exit)) (take (WIDTH * rows) (now (words .entry))) (take bytes (now (work .entry))) ⌝ }
+{
+    let sizes = Sizes {
+        rows,
+        bytes,
+        names,
+        free: 1,
+        limit: rules::MOST_ROWS,
+    };
+    let made = normal_form::make_result(words, work, notes, path, tops, sizes);
+    match outputs::room(made.rows, made.bytes, rules::MOST_ROWS, rules::MOST_BYTES) {
+        Checked::Accepted => Filled::Done {
+            rows: made.rows,
+            bytes: made.bytes,
+        },
+        Checked::Refused(why) => Filled::Refused(why),
+    }
+}
