@@ -8,6 +8,7 @@ ghost use Rattle.rules.specs.Lists.{isOneOf};
 ghost use Rattle.rules.specs.Table.{MOST-ROWS, rowCount};
 ghost use Rattle.notes.specs.Notes.{NOTES, noteAt};
 ghost use Rattle.children.specs.Children.{kinds, isUnder, firstWord, Listed, Relinked};
+use rules::Position;
 use rules::Row;
 
 // Links the owned rows of all elements and the rows of their contents, from records without such links.
@@ -24,7 +25,8 @@ pub fn link_all(table: &[u32], links: &mut [u16])
     }
 }
 
-// Links a row, if it is of this kind, in front of the others of its element, which are the later ones.
+// Links a row, if it is one of those that are owned, or that stand in contents, in front of the others of its element, which are the
+// later ones.
 fn link(table: &[u32], links: &mut [u16], row: Row, owned: bool)
     requires { ⌜ (rowCount (now table) ≤ MOST-ROWS) × (NOTES * rowCount (now table) ≤ length (now links)) × (row .0 < rowCount (now table)) ⌝ }
     requires { ⌜ Listed (isUnder owned (now table)) (firstWord owned) (now links) (rowCount (now table)) (row .0 + 1) ⌝ }
@@ -35,27 +37,27 @@ fn link(table: &[u32], links: &mut [u16], row: Row, owned: bool)
         let parent = rows::parent(table, row);
         if rows::has_row(table, parent) {
             let first = first_word(owned);
-            let next = notes::note(links, parent, first);
-            notes::set_note(links, row, first + 1, next);
-            notes::set_note(links, parent, first, row.0 as u16 + 1);
+            let next = notes::link(links, parent, first);
+            notes::set_link(links, row, first + 1, next);
+            notes::set_link(links, parent, first, notes::position_of(row));
         }
     }
 }
 
-// The first row of this kind that the row has; 0 where there is none.
-pub fn first(links: &[u16], row: Row, owned: bool) -> u16
+// The first of the rows that a row owns, or of those in its content; 0 where there is none.
+pub fn first(links: &[u16], row: Row, owned: bool) -> Position
     requires { ⌜ NOTES * row .0 + NOTES ≤ length (now links) ⌝ }
-    ensures { λ r. ⌜ r ≡ noteAt (now (links .entry)) (row .0) (firstWord owned) ⌝ }
+    ensures { λ r. ⌜ r .0 ≡ noteAt (now (links .entry)) (row .0) (firstWord owned) ⌝ }
 {
-    notes::note(links, row, first_word(owned))
+    notes::link(links, row, first_word(owned))
 }
 
-// The next row of this kind of the same element; 0 where there is none.
-pub fn next(links: &[u16], row: Row, owned: bool) -> u16
+// The next of them behind one; 0 where there is none.
+pub fn next(links: &[u16], row: Row, owned: bool) -> Position
     requires { ⌜ NOTES * row .0 + NOTES ≤ length (now links) ⌝ }
-    ensures { λ r. ⌜ r ≡ noteAt (now (links .entry)) (row .0) (firstWord owned + 1) ⌝ }
+    ensures { λ r. ⌜ r .0 ≡ noteAt (now (links .entry)) (row .0) (firstWord owned + 1) ⌝ }
 {
-    notes::note(links, row, first_word(owned) + 1)
+    notes::link(links, row, first_word(owned) + 1)
 }
 
 // The types of the rows that an element owns, or of those in its content.

@@ -32,7 +32,7 @@ pub fn put_element(
     loop {
         to = put_start_tag(table, pool, links, runs, out, to, Row(element));
         depth += 1;
-        let mut position = children::first(links, Row(element), false);
+        let mut position = children::first(links, Row(element), false).0;
         loop {
             if position == 0 {
                 to = tags::put_end_tag(table, pool, Row(element), out, to);
@@ -40,7 +40,7 @@ pub fn put_element(
                 if depth == 0 {
                     return to;
                 }
-                position = children::next(links, Row(element), false);
+                position = children::next(links, Row(element), false).0;
                 element = rows::parent(table, Row(element)).0;
             } else {
                 let inner = Row(position as u32 - 1);
@@ -49,7 +49,7 @@ pub fn put_element(
                     break;
                 }
                 to = tags::put_text(table, pool, links, runs, out, to, inner);
-                position = children::next(links, inner, false);
+                position = children::next(links, inner, false).0;
             }
         }
     }
@@ -95,11 +95,11 @@ fn put_owned(
 {
     let element = row.0;
     let mut to = at;
-    let mut position = children::first(links, Row(element), true);
+    let mut position = children::first(links, Row(element), true).0;
     while position > 0 {
         let owned = Row(position as u32 - 1);
         to = tags::put_attribute(table, pool, links, runs, out, to, owned);
-        position = children::next(links, owned, true);
+        position = children::next(links, owned, true).0;
     }
     to
 }

@@ -52,7 +52,7 @@ quoted-ordinary b e =
     (sixth .0, both-false (eqb b 10) false (sixth .1) .0)
 
 -- What holds of each escape and of every other byte holds of every byte.
-module _ (P : Bool → ℕ → List ℕ → Type 0) (five : (quoted : Bool) → P quoted 38 (38 ∷ 97 ∷ 109 ∷ 112 ∷ 59 ∷ []) × P quoted 60 (38 ∷ 108 ∷ 116 ∷ 59 ∷ []) × P quoted 62 (38 ∷ 103 ∷ 116 ∷ 59 ∷ []) × P quoted 34 (38 ∷ 113 ∷ 117 ∷ 111 ∷ 116 ∷ 59 ∷ []) × P quoted 13 (38 ∷ 35 ∷ 49 ∷ 51 ∷ 59 ∷ [])) (two : P true 9 (38 ∷ 35 ∷ 57 ∷ 59 ∷ []) × P true 10 (38 ∷ 35 ∷ 49 ∷ 48 ∷ 59 ∷ [])) (other : (quoted : Bool) (b : ℕ) → isEscaped quoted b ≡ false → P quoted b (b ∷ [])) where
+module _ (P : Bool → ℕ → List ℕ → Type 0) (five : (quoted : Bool) → P quoted 38 (escape quoted 38) × P quoted 60 (escape quoted 60) × P quoted 62 (escape quoted 62) × P quoted 34 (escape quoted 34) × P quoted 13 (escape quoted 13)) (two : P true 9 (escape true 9) × P true 10 (escape true 10)) (other : (quoted : Bool) (b : ℕ) → isEscaped quoted b ≡ false → P quoted b (b ∷ [])) where
   at : (quoted : Bool) (b k : ℕ) → eqb b k ≡ true → P quoted k (escape quoted k) → P quoted b (escape quoted b)
   at quoted b k e p = subst (λ (n : ℕ). P quoted n (escape quoted n)) (sym (eqb-true b k e)) p
 
@@ -60,7 +60,7 @@ module _ (P : Bool → ℕ → List ℕ → Type 0) (five : (quoted : Bool) → 
   unescaped quoted b e = subst (P quoted b) (sym (escape-none quoted b e)) (other quoted b e)
 
   pub every-byte : (quoted : Bool) (b : ℕ) → P quoted b (escape quoted b)
-  unfolding isEscaped escape escapes
+  unfolding isEscaped escapes
   every-byte quoted b =
       by-cases (eqb b 38) (λ e. at quoted b 38 e (five quoted .0)) (λ e1.
       by-cases (eqb b 60) (λ e. at quoted b 60 e (five quoted .1)) (λ e2.
@@ -74,6 +74,43 @@ module _ (P : Bool → ℕ → List ℕ → Type 0) (five : (quoted : Bool) → 
           by-cases (eqb b 9) (λ e. at true b 9 e (two .0)) (λ e6.
           by-cases (eqb b 10) (λ e. at true b 10 e (two .1)) (λ e7. unescaped true b (rw (e1, e2, e3, e4, e5, e6, e7) refl)))
       rest false e1 e2 e3 e4 e5 = unescaped false b (rw (e1, e2, e3, e4, e5) refl)
+
+-- What holds no carriage return is not changed at its line ends.
+pub lines-kept : (bytes : List ℕ) → anyOf (eqb 13) bytes ≡ false → lines bytes ≡ bytes
+unfolding lines
+lines-kept [] e = refl
+lines-kept (b ∷ bs) e =
+    let h = both-false (eqb 13 b) (anyOf (eqb 13) bs) e in
+    let f : eqb b 13 ≡ false = eqb-false-sym 13 b (h .0) in
+    rw (f, lines-kept bs (h .1)) refl
+
+-- A written value holds none.
+returns-gone : (rest : List ℕ) (quoted : Bool) (b : ℕ) → anyOf (eqb 13) (escape quoted b ++ rest) ≡ anyOf (eqb 13) rest
+unfolding escapes escape
+returns-gone rest =
+    every-byte (λ (quoted : Bool) (b : ℕ) (l : List ℕ). anyOf (eqb 13) (l ++ rest) ≡ anyOf (eqb 13) rest)
+    (λ quoted. (refl, refl, refl, refl, refl))
+    (refl, refl)
+    (λ quoted b e. rw (eqb-false-sym b 13 (ordinary quoted b e .return)) refl)
+
+pub no-return : (quoted : Bool) (value : List ℕ) → anyOf (eqb 13) (escaped quoted value) ≡ false
+unfolding escaped
+no-return quoted [] = refl
+no-return quoted (b ∷ bs) = returns-gone (gathered (escape quoted) bs) quoted b ∙ no-return quoted bs
+
+-- Nothing bare.
+none-bare : (rest : List ℕ) (quoted : Bool) (b : ℕ) → nothingBare (escape quoted b ++ rest) ≡ nothingBare rest
+unfolding escapes escape
+none-bare rest =
+    every-byte (λ (quoted : Bool) (b : ℕ) (l : List ℕ). nothingBare (l ++ rest) ≡ nothingBare rest)
+    (λ quoted. (refl, refl, refl, refl, refl))
+    (refl, refl)
+    (λ quoted b e. let o = ordinary quoted b e in rw (o .quote, o .less, o .ampersand) refl)
+
+pub nothing-bare : NothingBare
+unfolding escaped
+nothing-bare quoted [] = refl
+nothing-bare quoted (b ∷ bs) = none-bare (gathered (escape quoted) bs) quoted b ∙ nothing-bare quoted bs
 
 -- A byte that is not escaped is read as itself.
 bare : (quoted : Bool) (b : ℕ) → isEscaped quoted b ≡ false → isBare quoted b ≡ true
@@ -91,7 +128,7 @@ itself rest quoted b e = rw (ordinary quoted b e .ampersand, bare quoted b e, ke
 
 -- A byte of a value comes back, whatever follows.
 back : (rest : List ℕ) (quoted : Bool) (b : ℕ) → readAfter quoted none (escape quoted b ++ rest) ≡ before (b ∷ []) (readAfter quoted none rest)
-unfolding referenced sequence
+unfolding escapes escape referenced sequence
 back rest =
     every-byte (λ (quoted : Bool) (b : ℕ) (l : List ℕ). readAfter quoted none (l ++ rest) ≡ before (b ∷ []) (readAfter quoted none rest))
     (λ quoted. (refl, refl, refl, refl, refl))
@@ -104,42 +141,6 @@ unfolding readValue escaped
 value-back quoted [] = refl
 value-back quoted (b ∷ bs) = back (gathered (escape quoted) bs) quoted b ∙ ap (before (b ∷ [])) (value-back quoted bs)
 
--- What holds no carriage return is not changed at its line ends.
-pub lines-kept : (bytes : List ℕ) → anyOf (eqb 13) bytes ≡ false → lines bytes ≡ bytes
-unfolding lines
-lines-kept [] e = refl
-lines-kept (b ∷ bs) e =
-    let h = both-false (eqb 13 b) (anyOf (eqb 13) bs) e in
-    let f : eqb b 13 ≡ false = eqb-false-sym 13 b (h .0) in
-    rw (f, lines-kept bs (h .1)) refl
-
--- A written value holds none.
-returns-gone : (rest : List ℕ) (quoted : Bool) (b : ℕ) → anyOf (eqb 13) (escape quoted b ++ rest) ≡ anyOf (eqb 13) rest
-returns-gone rest =
-    every-byte (λ (quoted : Bool) (b : ℕ) (l : List ℕ). anyOf (eqb 13) (l ++ rest) ≡ anyOf (eqb 13) rest)
-    (λ quoted. (refl, refl, refl, refl, refl))
-    (refl, refl)
-    (λ quoted b e. rw (eqb-false-sym b 13 (ordinary quoted b e .return)) refl)
-
-pub no-return : (quoted : Bool) (value : List ℕ) → anyOf (eqb 13) (escaped quoted value) ≡ false
-unfolding escaped
-no-return quoted [] = refl
-no-return quoted (b ∷ bs) = returns-gone (gathered (escape quoted) bs) quoted b ∙ no-return quoted bs
-
 pub undone : Undone
 undone quoted value =
     ap (readValue quoted) (lines-kept (escaped quoted value) (no-return quoted value)) ∙ value-back quoted value
-
--- Nothing bare.
-none-bare : (rest : List ℕ) (quoted : Bool) (b : ℕ) → nothingBare (escape quoted b ++ rest) ≡ nothingBare rest
-unfolding escapes
-none-bare rest =
-    every-byte (λ (quoted : Bool) (b : ℕ) (l : List ℕ). nothingBare (l ++ rest) ≡ nothingBare rest)
-    (λ quoted. (refl, refl, refl, refl, refl))
-    (refl, refl)
-    (λ quoted b e. let o = ordinary quoted b e in rw (o .quote, o .less, o .ampersand) refl)
-
-pub nothing-bare : NothingBare
-unfolding escaped
-nothing-bare quoted [] = refl
-nothing-bare quoted (b ∷ bs) = none-bare (gathered (escape quoted) bs) quoted b ∙ nothing-bare quoted bs

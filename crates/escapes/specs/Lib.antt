@@ -1,4 +1,3 @@
--- Escapes: how a value is written. Undoing: how a reader undoes it. Runs: how far a value stands for itself.
+-- Escapes: how a value is written. Undoing: how a reader undoes it.
 pub mod Escapes
 pub mod Undoing
-pub mod Runs

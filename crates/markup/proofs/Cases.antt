@@ -6,7 +6,8 @@ use Rattle.rules.specs.Answers.{numberOf, writtenNumber, writtenBytes}
 use Rattle.rules.specs.Utf8.{following, wellFormed, sequence, leading, decoded}
 use Rattle.rules.specs.Refusals.{badSize, parentRule, parentAllowed, secondElement, badStructure, mustBeEmpty, fieldsRefusal, encodingsRefusal, goodName, badNames, badNamespace, badDeclaration, isDouble, faults, conflicts, rowRefusal, checkRefusal}
 use Rattle.rules.specs.Lookups.{climb, elementsFrom, elementChild, ownDeclarations, scopeOf, scopeAt, inScopeUri, lookupRefusal}
-use Rattle.rules.specs.Normalization.{padded, level1Refusal}
+use Rattle.rules.specs.Outputs.{padded}
+use Rattle.rules.specs.Normalization.{level1Refusal}
 use Rattle.rules.specs.Demands.{elementMeansIn, elementMeans, attributeMeansIn, attributeMeans, means, upFrom, selfAndAncestors}
 use Rattle.bundles.specs.Operations.{writeRefused, writeDone}
 use Rattle.bundles.specs.Cases.{writeGives, sameLists}

@@ -16,7 +16,8 @@ use Rattle.rules.specs.Table.{MOST-ROWS, NONE, ELEMENT, ATTRIBUTE, TEXT, DOCUME
 use Rattle.rules.specs.Refusals.{refusedIf, checkRefusal, badNamespace, badDeclaration, isDouble}
 use Rattle.rules.specs.Lookups.{elementsFrom, elementChild, ownDeclarations, scopeOf, scopeAt, inScopeUri, uriBytes, lookupRefusal}
 use Rattle.rules.specs.Answers.{writtenBytes}
-use Rattle.rules.specs.Normalization.{padded, level1Refusal}
+use Rattle.rules.specs.Outputs.{padded}
+use Rattle.rules.specs.Normalization.{level1Refusal}
 use Rattle.bundles.specs.Operations.{writeDone}
 use Rattle.rules.specs.Demands.{elementMeansIn, elementMeans, attributeMeansIn, attributeMeans, means, upFrom, selfAndAncestors}
 use Rattle.rules.specs.declared.Refusal.{Refusal}

@@ -1,14 +1,15 @@
--- What normalization gives, written from the document, draws neither 23 nor 24.
+-- What normalization gives, written from a document or from an element that no other is around, draws neither 23 nor 24.
 -- Assumes nothing.
 use Prim.Native.Nat.{ℕ, zero, suc, _+_, _≤_, _<_}
-use mathlib.Core.Path.{_≡_, refl, sym, _∙_, ap}
+use mathlib.Core.Path.{_≡_, refl, sym, _∙_, ap, subst}
 use mathlib.Core.Bool.{Bool, true, false, _&&_, _||_, not}
 use mathlib.Core.List.{List, [], _∷_, map}
-use mathlib.Core.Option.{Option, none, some}
+use mathlib.Core.Option.{Option, none, some, Option·none-ne-some, Option·some-injective}
+use mathlib.Core.Logic.{inl, inr}
 use native.Mathlib.Omega.{arith}
 use lib.ListN.{length}
 use lib.Dec.{T, eqb, ltb, leb}
-use borrow.Author.Tests.{eqb-true, ne-eqb, ltb-true, ltb-false}
+use borrow.Author.Tests.{eqb-true, ne-eqb, ltb-true, ltb-false, le-ltb}
 use Rattle.rules.specs.Lists.{numbersFrom, isOneOf, isEmpty}
 use Rattle.rules.specs.Table.{NONE, ELEMENT, ATTRIBUTE, DOCUMENT, DECLARATION, Node, nodes, node, isElement, isLevel1, rowCount}
 use Rattle.rules.specs.Answers.{numberOf}
@@ -27,7 +28,7 @@ use Rattle.rules.proofs.Demand3.{result-is, meaning}
 use Rattle.rules.proofs.Again.{standing, passes-again}
 use Rattle.characters.specs.Characters.{holdsForbidden}
 use Rattle.markup.specs.Writing.{elementToWrite, inSubtree, lowestRow, hasNoMarkup, isUndeclared, isInherited, subtreeRefusal, textRefusal, tableText}
-use Rattle.markup.specs.ReadingBack.{NormalizedIsWhole}
+use Rattle.markup.specs.ReadingBack.{Outermost, NormalizedIsWhole}
 
 -- The refusal, if there is one, has a number of at most 22.
 abbrev Low : Option Refusal → Type 0
@@ -105,9 +106,33 @@ module _ (ns : List Node) (start e : ℕ) (document : node ns start .type ≡ DO
       rw (child-is .0, child-is .1)
       (by-cases (ltb start e) (λ q. rw (q, outside e) refl) (λ q. rw q refl))
 
-  not-inherited : (r : ℕ) → isInherited ns e r ≡ false
-  unfolding isInherited
-  not-inherited r = rw alone (neither (eqb (node ns r .type) DECLARATION) (not (isEmpty (node ns r .value .bytes))) (eqb (node ns r .parent) e) _)
+-- An element without a parent has none either.
+pub parentless-alone : (ns : List Node) (e : ℕ) → isElement (node ns e .type) ≡ true → e ≤ node ns e .parent → elementsFrom ns e ≡ e ∷ []
+unfolding elementsFrom climb
+parentless-alone ns e is past = rw (is, le-ltb (node ns e .parent) e past) refl
+
+-- The element that is written from an outermost row has no other around it.
+chosen-alone : (ns : List Node) (start : ℕ) → Outermost ns start → (e : ℕ) → elementToWrite ns start ≡ some e → (isElement (node ns e .type) ≡ true) × (elementsFrom ns e ≡ e ∷ [])
+unfolding elementToWrite
+chosen-alone ns start outer e chosen =
+    by-cases (isElement (node ns start .type))
+    (λ q. itself q outer (Option·some-injective start e (rw q at chosen)))
+    (λ q.
+    by-cases (eqb (node ns start .type) DOCUMENT)
+    (λ d.
+    let document = eqb-true (node ns start .type) DOCUMENT d in
+    let child : elementChild ns start ≡ some e = rw (q, d) at chosen in
+    (child-is ns start e document child .0, alone ns start e document child))
+    (λ d. absurd (Option·none-ne-some e (rw (q, d) at chosen))))
+  where
+    itself : isElement (node ns start .type) ≡ true → Outermost ns start → start ≡ e → (isElement (node ns e .type) ≡ true) × (elementsFrom ns e ≡ e ∷ [])
+    itself q (inl document) same = absurd (true-not-false q (rw document refl))
+    itself q (inr free) same = subst (λ (k : ℕ). (isElement (node ns k .type) ≡ true) × (elementsFrom ns k ≡ k ∷ [])) same (q, free)
+
+-- Such an element inherits nothing.
+not-inherited : (ns : List Node) (e : ℕ) → elementsFrom ns e ≡ e ∷ [] → (r : ℕ) → isInherited ns e r ≡ false
+unfolding isInherited
+not-inherited ns e free r = rw free (neither (eqb (node ns r .type) DECLARATION) (not (isEmpty (node ns r .value .bytes))) (eqb (node ns r .parent) e) _)
 
 -- The result of a normalization that succeeded.
 module _ (table pool : List ℕ) (tableSize poolSize : ℕ) (t : T (succeeded (normalized table pool tableSize poolSize))) where
@@ -172,17 +197,17 @@ module _ (table pool : List ℕ) (tableSize poolSize : ℕ) (t : T (succeeded (n
       (λ n. rw (h, n) refl))
       (λ h. rw h refl)
 
-  -- The check passes, and no subtree of a document's element draws 23 or 24.
+  -- The check passes, and no subtree of an element without another around it draws 23 or 24.
   passes : checkRefusal (resultTable (normalized table pool tableSize poolSize)) (resultPool (normalized table pool tableSize poolSize)) ≡ none
   unfolding checked
   passes =
       verdict-accepted (checkRefusal (resultTable (normalized table pool tableSize poolSize)) (resultPool (normalized table pool tableSize poolSize)))
       (passes-again table pool tableSize poolSize t)
 
-  subtree-low : (start : ℕ) → node made start .type ≡ DOCUMENT → (o : Option ℕ) → elementChild made start ≡ o → Low (subtreeRefusal made start o)
+  subtree-low : (start : ℕ) (o : Option ℕ) → ((e : ℕ) → o ≡ some e → (isElement (node made e .type) ≡ true) × (elementsFrom made e ≡ e ∷ [])) → Low (subtreeRefusal made start o)
   unfolding subtreeRefusal numberOf
-  subtree-low start document none c = omega arith
-  subtree-low start document (some e) c =
+  subtree-low start none free = omega arith
+  subtree-low start (some e) free =
       first-low
       (lowestRow made (λ (r : ℕ). inSubtree made e r && hasNoMarkup made r) Refusal.NotMarkup
       ∷ lowestRow made (λ (r : ℕ). inSubtree made e r && holdsForbidden (node made r .value .bytes)) Refusal.Character
@@ -193,18 +218,18 @@ module _ (table pool : List ℕ) (tableSize poolSize : ℕ) (t : T (succeeded (n
         (
           lowest-low (λ (r : ℕ). refusedIf (inSubtree made e r && holdsForbidden (node made r .value .bytes)) (Refusal.Character (record { 0 = r }))) (λ r. if-low (inSubtree made e r && holdsForbidden (node made r .value .bytes)) (Refusal.Character (record { 0 = r })) (omega arith)) (numbersFrom 0 (length made)),
           (
-            none-low (no-lowest (λ (r : ℕ). refusedIf (inSubtree made e r && isUndeclared made r) (Refusal.Undeclared (record { 0 = r }))) (length made) (λ r i. rw (declared e r i (child-is made start e document c .0)) refl)),
+            none-low (no-lowest (λ (r : ℕ). refusedIf (inSubtree made e r && isUndeclared made r) (Refusal.Undeclared (record { 0 = r }))) (length made) (λ r i. rw (declared e r i (free e refl .0)) refl)),
             (
-              none-low (no-lowest (λ (r : ℕ). refusedIf (isInherited made e r) (Refusal.Inherited (record { 0 = r }))) (length made) (λ r i. rw (not-inherited made start e document c r) refl)),
+              none-low (no-lowest (λ (r : ℕ). refusedIf (isInherited made e r) (Refusal.Inherited (record { 0 = r }))) (length made) (λ r i. rw (not-inherited made e (free e refl .1) r) refl)),
               tt,
             ),
           ),
         ),
       )
 
-  low : (start size : ℕ) → node made start .type ≡ DOCUMENT → Low (textRefusal (resultTable (normalized table pool tableSize poolSize)) (resultPool (normalized table pool tableSize poolSize)) start size)
-  unfolding textRefusal lookupRefusal level1Refusal resultRows numberOf elementToWrite
-  low start size document =
+  low : (start size : ℕ) → Outermost made start → Low (textRefusal (resultTable (normalized table pool tableSize poolSize)) (resultPool (normalized table pool tableSize poolSize)) start size)
+  unfolding textRefusal lookupRefusal level1Refusal resultRows numberOf
+  low start size outer =
       let o = normalized table pool tableSize poolSize in
       let ms = nodes (resultTable o) (resultPool o) in
       let table′ = resultTable o in
@@ -216,11 +241,11 @@ module _ (table pool : List ℕ) (tableSize poolSize : ℕ) (t : T (succeeded (n
       (behind (level1Refusal ms) (subtreeRefusal ms start (elementToWrite ms start) ∷ room ∷ [])
       (lowest-low (λ (r : ℕ). refusedIf (isLevel1 (node ms r .type)) (Refusal.Level1 (record { 0 = r }))) (λ r. if-low (isLevel1 (node ms r .type)) (Refusal.Level1 (record { 0 = r })) (omega arith)) (numbersFrom 0 (length ms)))
       (behind (subtreeRefusal ms start (elementToWrite ms start)) (room ∷ [])
-      (rw document (subtree-low start document (elementChild ms start) refl))
+      (subtree-low start (elementToWrite ms start) (chosen-alone ms start outer))
       (behind room [] (if-low (ltb size (length (tableText table′ pool′ start))) Refusal.TextRoom (omega arith)) tt)))
 
 pub normalized-is-whole : NormalizedIsWhole
 unfolding numberOf
-normalized-is-whole table pool tableSize poolSize t start size r document =
-    let l = low table pool tableSize poolSize t start size document in
+normalized-is-whole table pool tableSize poolSize t start size r outer =
+    let l = low table pool tableSize poolSize t start size outer in
     (λ e. let h : 23 ≤ 22 = rw e at l in omega arith, λ e. let h : 24 ≤ 22 = rw e at l in omega arith)

@@ -1,9 +1,11 @@
 -- RULES 12.9: what is written reads back.
 use Prim.Native.Nat.{ℕ}
 use mathlib.Core.Path.{_≡_}
-use mathlib.Core.List.{List, [], _++_}
+use mathlib.Core.List.{List, [], _∷_, _++_}
+use mathlib.Core.Logic.{_⊎_}
 use mathlib.Core.Option.{none, some}
-use Rattle.rules.specs.Table.{DOCUMENT, nodes, node}
+use Rattle.rules.specs.Table.{DOCUMENT, Node, nodes, node}
+use Rattle.rules.specs.Lookups.{elementsFrom}
 use Rattle.rules.specs.Answers.{writtenBytes}
 use Rattle.rules.specs.Normalization.{normalized}
 use Rattle.rules.specs.Demands.{succeeded, resultTable, resultPool, resultRows}
@@ -39,10 +41,14 @@ ReadsBack =
     (e : ℕ) × (elementToWrite (nodes table pool) start ≡ some e)
     × (read (textLeft (textWritten table pool start size)) ≡ some (joined (meantTree (nodes table pool) e)))
 
--- What normalization gives, written from the document, has every name declared and inherits nothing: neither 23 nor 24.
+-- Row r is a document, or an element that no other element is around: it has no parent, or lies in a document or a fragment.
+abbrev pub Outermost : List Node → ℕ → Type 0
+Outermost ns r = (node ns r .type ≡ DOCUMENT) ⊎ (elementsFrom ns r ≡ r ∷ [])
+
+-- What normalization gives, written from such a row, has every name declared and inherits nothing: neither 23 nor 24.
 abbrev pub NormalizedIsWhole : Type 0
 NormalizedIsWhole =
     (table pool : List ℕ) (tableSize poolSize : ℕ) → T (succeeded (normalized table pool tableSize poolSize)) →
-    (start size : ℕ) (r : Row) → node (resultRows (normalized table pool tableSize poolSize)) start .type ≡ DOCUMENT →
+    (start size : ℕ) (r : Row) → Outermost (resultRows (normalized table pool tableSize poolSize)) start →
     (textRefusal (resultTable (normalized table pool tableSize poolSize)) (resultPool (normalized table pool tableSize poolSize)) start size ≡ some (Refusal.Undeclared r) → ⊥)
     × (textRefusal (resultTable (normalized table pool tableSize poolSize)) (resultPool (normalized table pool tableSize poolSize)) start size ≡ some (Refusal.Inherited r) → ⊥)

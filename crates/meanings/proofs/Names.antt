@@ -6,7 +6,7 @@ use mathlib.Core.Bool.{Bool, true, false, _&&_, _||_, not}
 use mathlib.Core.List.{List, [], _∷_}
 use mathlib.Core.Option.{Option}
 use native.Mathlib.Omega.{arith}
-use lib.ListN.{length, getD}
+use lib.ListN.{length}
 use lib.Dec.{eqb}
 use borrow.Author.Tests.{eqb-true, eqb-false, eq-eqb, ne-eqb, lt-ltb}
 use Rattle.rules.specs.Lists.{anyOf, isOneOf, isEmpty}
@@ -21,11 +21,10 @@ use Rattle.rules.proofs.Again.{rows-passable}
 use Rattle.rows.proofs.Words.{type-word, parent-word}
 use Rattle.notes.specs.Notes.{PREFIX, LOCAL-NAME, VALUE, noteAt}
 use Rattle.numbers.specs.Noted.{NodeNumbered, declaredUri}
-use Rattle.scopes.specs.Scopes.{nearest}
+use Rattle.stacks.specs.Scopes.{nearest}
 use Rattle.scopes.specs.Rows.{up}
-use Rattle.scopes.specs.Stacks.{TOPS, PREFIXES, NUMBERED, topAt, underAt, prefixAt, valueAt, Untouched}
+use Rattle.stacks.specs.Stacks.{TOPS, PREFIXES, NUMBERED, topAt, underAt, prefixAt, valueAt, Untouched}
 use Rattle.scopes.specs.Standing.{Standing, Ready}
-use Rattle.scopes.proofs.Reading.{up-falls}
 use Rattle.scopes.proofs.Definitions.{tree-accepted}
 use Rattle.bindings.specs.Spelled.{Here, Scoped, rowAt}
 use Rattle.bindings.specs.Asking.{elementSettled, attributeSettled, Asked}
@@ -39,9 +38,10 @@ use Rattle.rules.specs.Refusals.{firstRefusal, verdict}
 use Rattle.rules.specs.declared.Refusal.{Refusal}
 use Rattle.rules.specs.declared.Checked.{Checked}
 use Rattle.rules.proofs.Refusals.{first-alone, verdict-accepted, verdict-refused}
-use Rattle.subtree.proofs.Scans.{Scanning, flag-is, told-true, told-false}
+use Rattle.subtree.proofs.Scans.{Scanning, flag-is}
 use Rattle.subtree.proofs.Flags.{in-none}
-use Rattle.meanings.specs.Names.{Walkable, undeclared, isNamed, placeOf, isUnsettled, isOpen}
+use Rattle.row_meanings.specs.Tests.{isNamed, placeOf, isUnsettled, isOpen}
+use Rattle.meanings.specs.Names.{Walkable, undeclared}
 use Rattle.meanings.proofs.Inherited.{nearest-is-inherited}
 
 -- The test of a declaration, by the tests that it is made of.
@@ -50,35 +50,6 @@ open-parts true true on free = refl
 open-parts true false on free = refl
 open-parts false true on free = refl
 open-parts false false on free = refl
-
--- What the functions answer, from what they read.
-module _ (table : List ℕ) (r : ℕ) {k : ℕ} (read : k ≡ word table r TYPE) where
-  pub named-told : (flags : List ℕ) {f : Bool} → f ≡ eqb (getD flags r 0) 1 → (f && (eqb k ELEMENT || eqb k ATTRIBUTE)) ≡ isNamed table flags r
-  named-told flags flag = rw (flag, read) refl
-
-  pub place-own : r < rowCount table → k ≡ ELEMENT → (r + 1 ≡ placeOf table r) × (r + 1 ≤ rowCount table)
-  place-own within is = (rw (sym read ∙ is) refl, omega arith)
-
-  pub place-owner : {u : ℕ} → r < rowCount table → (k ≡ ELEMENT → ⊥) → u ≡ up table (r + 1) → (u ≡ placeOf table r) × (u ≤ rowCount table)
-  place-owner within other above =
-      let falls = up-falls table (r + 1) (omega arith) in
-      (above ∙ rw (ne-eqb (word table r TYPE) ELEMENT (λ z. other (read ∙ z))) refl, omega arith)
-
-  module _ (notes tops path flags : List ℕ) (named : isNamed table flags r ≡ true) where
-    pub unsettled-element : {b : Bool} → k ≡ ELEMENT → b ≡ elementSettled notes tops path r → not b ≡ isUnsettled table notes tops path flags r
-    unsettled-element is settled = told-true named (rw (eq-eqb (word table r TYPE) ELEMENT (sym read ∙ is), settled) refl)
-
-    pub unsettled-attribute : {b : Bool} → (k ≡ ELEMENT → ⊥) → b ≡ attributeSettled notes tops path r → not b ≡ isUnsettled table notes tops path flags r
-    unsettled-attribute other settled = told-true named (rw (ne-eqb (word table r TYPE) ELEMENT (λ z. other (read ∙ z)), settled) refl)
-
-  module _ (notes tops : List ℕ) (e : ℕ) where
-    pub open-read :
-        {p v n t : ℕ} → k ≡ DECLARATION → p ≡ word table r PARENT → v ≡ noteAt notes r VALUE → n ≡ noteAt notes r LOCAL-NAME → t ≡ topAt tops PREFIXES n
-        → ((not (eqb p e) && not (eqb v 0)) && eqb t (r + 1)) ≡ isOpen table notes tops e r
-    open-read is parent value prefix top = told-true (eq-eqb (word table r TYPE) DECLARATION (sym read ∙ is)) (rw (parent, value, top, prefix) refl)
-
-    pub open-other : (k ≡ DECLARATION → ⊥) → false ≡ isOpen table notes tops e r
-    open-other other = told-false _ (ne-eqb (word table r TYPE) DECLARATION (λ z. other (read ∙ z)))
 
 module _ {table pool notes tops path : List ℕ} (w : Walkable table pool notes tops path) where
   abbrev ns : List Node

@@ -8,7 +8,7 @@ use mathlib.Core.Option.{Option, none, some}
 use native.Mathlib.Omega.{arith}
 use lib.Dec.{eqb, ltb}
 use lib.ListN.{length, set, length-set}
-use borrow.Author.Tests.{eqb-true, eqb-false, eq-eqb, ne-eqb, ltb-true, lt-ltb}
+use borrow.Author.Tests.{eqb-true, eqb-false, ne-eqb, ltb-true, lt-ltb}
 use Rattle.rules.specs.Lists.{isOneOf, isEmpty, anyOf}
 use Rattle.rules.specs.Table.{NONE, TYPE, PARENT, ELEMENT, ATTRIBUTE, TEXT, DOCUMENT, DECLARATION, LEVEL1-ELEMENT, LEVEL1-ATTRIBUTE, Node, nodes, node, word, rowCount, isElement, isLevel1, ParentRule, allowedParents}
 use Rattle.rules.specs.Refusals.{refusedIf, parentRule, parentAllowed}
@@ -22,7 +22,7 @@ use Rattle.rules.proofs.Accepted.{Accepted, parent-allowed}
 use Rattle.rows.proofs.Words.{type-word, parent-word}
 use Rattle.notes.specs.Notes.{LATEST, noteAt}
 use Rattle.scopes.specs.Rows.{up, ownerOf}
-use Rattle.scopes.specs.Stacks.{NUMBERED, underAt, Untouched}
+use Rattle.stacks.specs.Stacks.{NUMBERED, underAt, Untouched}
 use Rattle.scopes.specs.Standing.{Standing}
 use Rattle.scopes.proofs.Own.{reach-first}
 use Rattle.scopes.proofs.Changes.{standing-numbered}
@@ -30,29 +30,12 @@ use Rattle.scopes.proofs.Definitions.{tree-accepted}
 use Rattle.bindings.specs.Asking.{elementSettled, attributeSettled}
 use Rattle.markup.specs.Writing.{inSubtree, lowestRow, hasNoMarkup, isUndeclared, nearer, isInherited}
 use Rattle.subtree.proofs.Flags.{in-none}
+use Rattle.row_meanings.specs.Tests.{isTop, isLeaf, isWritable}
+use Rattle.row_meanings.specs.Outward.{Near, Noted}
+use Rattle.row_meanings.proofs.Outward.{stands-outside, noted-kept, noted-leaf, noted-next, xml-kept}
 use Rattle.meanings.specs.Names.{Walkable, undeclared}
-use Rattle.meanings.specs.Writable.{isTop, isLeaf, isWritable, Writable, Near, Noted}
+use Rattle.meanings.specs.Writable.{Writable}
 use Rattle.meanings.proofs.Names.{is-accepted, few, ready, walkable-kept, walkable-moved, in-kinds, element-is, attribute-is}
-use Rattle.meanings.proofs.Outward.{stands-outside, noted-kept, noted-leaf, noted-next, xml-kept}
-
--- What the functions answer, from what they read.
-module _ (table : List ℕ) (r : ℕ) {k : ℕ} (read : k ≡ word table r TYPE) (notes tops path : List ℕ) where
-  pub writable-element : {b : Bool} → k ≡ ELEMENT → b ≡ elementSettled notes tops path r → b ≡ isWritable table notes tops path r
-  writable-element is settled = rw (eq-eqb (word table r TYPE) ELEMENT (sym read ∙ is)) settled
-
-  module _ (other : k ≡ ELEMENT → ⊥) where
-    pub writable-attribute : {b : Bool} → k ≡ ATTRIBUTE → b ≡ attributeSettled notes tops path r → b ≡ isWritable table notes tops path r
-    writable-attribute is settled = rw (ne-eqb (word table r TYPE) ELEMENT (λ z. other (read ∙ z)), eq-eqb (word table r TYPE) ATTRIBUTE (sym read ∙ is)) settled
-
-    pub writable-other : {b : Bool} → (k ≡ ATTRIBUTE → ⊥) → b ≡ isLeaf k → (b || eqb k DOCUMENT) ≡ isWritable table notes tops path r
-    writable-other another leaf = rw (ne-eqb (word table r TYPE) ELEMENT (λ z. other (read ∙ z)), ne-eqb (word table r TYPE) ATTRIBUTE (λ z. another (read ∙ z)), leaf, read) refl
-
-module _ (table : List ℕ) (e : ℕ) {parent : ℕ} (read : parent ≡ word table e PARENT) {within : Bool} (told : within ≡ ltb parent (rowCount table)) where
-  pub top-below : within ≡ true → {k : ℕ} → k ≡ word table parent TYPE → eqb k DOCUMENT ≡ isTop table e
-  top-below is kind = rw (← read, sym told ∙ is, kind) refl
-
-  pub top-alone : within ≡ false → true ≡ isTop table e
-  top-alone is = rw (← read, sym told ∙ is) refl
 
 -- No rule lets a row lie in a text or a declaration.
 leafless : (type : ℕ) (rule : ParentRule) → parentRule type ≡ some rule → (isOneOf (rule .parents) TEXT || isOneOf (rule .parents) DECLARATION) ≡ false

@@ -17,8 +17,9 @@ use Rattle.rows.specs.Reading.{placeAt}
 use Rattle.buffers.specs.Writes.{Put}
 use Rattle.buffers.proofs.Writes.{put-behind}
 use Rattle.escapes.specs.Escapes.{escaped}
-use Rattle.escapes.specs.Runs.{isPlain, Known}
-use Rattle.escapes.proofs.Runs.{known-put, part-plain, part-measured}
+use Rattle.runs.specs.Runs.{isPlain, Known}
+use Rattle.runs.proofs.Runs.{part-plain, part-measured}
+use Rattle.values.proofs.Writing.{known-put}
 use Rattle.markup.specs.Trees.{Qualified, qualifiedName, declarationName, attributeName}
 use Rattle.markup.specs.Markup.{nameMarkup, attributeMarkup, endTag}
 use Rattle.tags.specs.Marks.{Marked}

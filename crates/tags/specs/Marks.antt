@@ -6,12 +6,16 @@ use mathlib.Core.List.{List}
 use lib.ListN.{length, getD}
 use Rattle.rules.specs.Lists.{allOf}
 use Rattle.rules.specs.Table.{PREFIX, LOCAL-NAME, URI, VALUE, rowCount, word}
-use Rattle.escapes.specs.Runs.{isPlain, Known}
+use Rattle.runs.specs.Runs.{isPlain, Known}
 
--- Where the first word is 1, no byte of the pool is escaped. The lengths of the pool's runs may be known.
+-- the word of the marks that is 1 where no byte of the pool is escaped
+abbrev pub PLAIN : ℕ
+PLAIN = 0
+
+-- Where the marks say so, no byte of the pool is escaped. The lengths of the pool's runs may be known.
 pub record Marked (pool marks runs : List ℕ) : Type 0 where
-  pub room : 0 < length marks
-  pub plain : getD marks 0 0 ≡ 1 → allOf (isPlain true) pool ≡ true
+  pub room : PLAIN < length marks
+  pub plain : getD marks PLAIN 0 ≡ 1 → allOf (isPlain true) pool ≡ true
   pub known : Known pool runs
 
 -- The field of row r whose offset is this word lies in the pool.

@@ -10,8 +10,11 @@ ghost use Rattle.buffers.specs.Writes.{Put};
 ghost use Rattle.escapes.specs.Escapes.{escaped};
 ghost use Rattle.markup.specs.Trees.{qualifiedName, declarationName, attributeName, writtenAttribute};
 ghost use Rattle.markup.specs.Markup.{nameMarkup, attributeMarkup, endTag};
-ghost use Rattle.tags.specs.Marks.{Marked, InPool, Pooled};
+ghost use Rattle.tags.specs.Marks.{PLAIN, Marked, InPool, Pooled};
 use rules::Row;
+
+// The word of the marks that is 1 where no byte of the pool is escaped.
+pub const PLAIN: usize = 0;
 
 // A text row.
 pub fn put_text(
@@ -32,7 +35,7 @@ pub fn put_text(
     if is_plain(marks) {
         return buffers::put_bytes(out, at, value);
     }
-    escapes::write_value(out, at, value, value_runs(table, row, runs), false)
+    values::write_value(out, at, value, value_runs(table, row, runs), false)
 }
 
 // An attribute or a declaration, after one space.
@@ -76,7 +79,7 @@ fn put_quoted(
     if is_plain(marks) {
         return buffers::put_bytes(out, at, value);
     }
-    escapes::write_value(out, at, value, value_runs(table, row, runs), true)
+    values::write_value(out, at, value, value_runs(table, row, runs), true)
 }
 
 // The lengths of the runs of a row's value, if they are known.
@@ -91,12 +94,12 @@ fn value_runs<'r>(table: &[u32], row: Row, runs: &'r [u16]) -> &'r [u16]
     &runs[..0]
 }
 
-// The first word tells that no byte of the pool is escaped.
+// The marks tell that no byte of the pool is escaped.
 fn is_plain(marks: &[u16]) -> bool
-    requires { ⌜ 0 < length (now marks) ⌝ }
-    ensures { λ r. ⌜ r ≡ eqb (getD (now (marks .entry)) 0 0) 1 ⌝ }
+    requires { ⌜ PLAIN < length (now marks) ⌝ }
+    ensures { λ r. ⌜ r ≡ eqb (getD (now (marks .entry)) PLAIN 0) 1 ⌝ }
 {
-    marks[0] == 1
+    marks[PLAIN] == 1
 }
 
 // The end tag of an element.

@@ -27,31 +27,28 @@ has-row-requires c κs = search needs
 first-word-requires : tie.Need-first-word-requires
 first-word-requires c κs = search needs
 
-note-requires : tie.Need-note-requires
-note-requires c κs =
+link-requires : tie.Need-link-requires
+link-requires c κs =
     let has = c .before .before .before in
     let s = has .before .before .before .before .before .before .before in
     let less = ltb-true (has .before .parent .result .0) (rowCount (s .args .table .now)) (sym (has .has-row .ensures) ∙ c .before .before .if2 .taken) in
     omega arith
 
-add-set-note : tie.Need-add-set-note
-add-set-note c = search needs
+add-set-link : tie.Need-add-set-link
+add-set-link c = search needs
 
-set-note-requires : tie.Need-set-note-requires
-set-note-requires c κs = search needs
+set-link-requires : tie.Need-set-link-requires
+set-link-requires c κs = search needs
 
-cast-set-note : tie.Need-cast-set-note
-cast-set-note c = search needs
+position-of-requires : tie.Need-position-of-requires
+position-of-requires c κs = search needs
 
-add-set-note-2 : tie.Need-add-set-note-2
-add-set-note-2 c = search needs
-
-set-note-requires-2 : tie.Need-set-note-requires-2
-set-note-requires-2 c κs =
+set-link-requires-2 : tie.Need-set-link-requires-2
+set-link-requires-2 c κs =
     let has = c .before .before .before .before .before .before .before .before .before .before in
     let s = has .before .before .before .before .before .before .before in
     let less = ltb-true (has .before .parent .result .0) (rowCount (s .args .table .now)) (sym (has .has-row .ensures) ∙ c .before .before .before .before .before .before .before .before .before .if2 .taken) in
-    omega arith
+    omega (arith, less, s .pre .0 .1, c .before .before .before .before .before .before .before .before .first-word .ensures .0, c .before .before .before .before .before .before .before .before .first-word .ensures .1, c .before .before .before .before .set-link .kept .0)
 
 same-length : tie.Need-same-length
 same-length c = search needs
@@ -73,8 +70,8 @@ returns c =
     let o = owner .parent .result .0 in
     let e = word .first-word .ensures .0 in
     let less = ltb-true o (rowCount table) (sym (has .has-row .ensures) ∙ word .before .if2 .taken) in
-    linked (isUnder owned table) (firstWord owned) links (rowCount table) r (s .pre .0 .2) (s .pre .1) o (next .note .result) (words-fit owned) less (s .pre .0 .1) (own-read owned table r (kind .kind .result) o (kind .kind .ensures) (owner .parent .ensures) (sym (owner .before .before .is-kind .ensures) ∙ owner .before .if1 .taken)) (own-one owned table r (kind .kind .result) o (kind .kind .ensures) (owner .parent .ensures)) (next .note .ensures ∙ ap (noteAt links o) e)
-    (first .set-note .last .0) (second .set-note2 .last .0) (first .set-note .ensures ∙ ap (λ k. noted links r (k + 1) (next .note .result)) e) (second .set-note2 .ensures ∙ ap (λ k. noted (first .set-note .last .0) o k (r + 1)) e)
+    linked (isUnder owned table) (firstWord owned) links (rowCount table) r (s .pre .0 .2) (s .pre .1) o (next .link .result .0) (words-fit owned) less (s .pre .0 .1) (own-read owned table r (kind .kind .result) o (kind .kind .ensures) (owner .parent .ensures) (sym (owner .before .before .is-kind .ensures) ∙ owner .before .if1 .taken)) (own-one owned table r (kind .kind .result) o (kind .kind .ensures) (owner .parent .ensures)) (next .link .ensures ∙ ap (noteAt links o) e)
+    (first .set-link .last .0) (second .set-link2 .last .0) (first .set-link .ensures ∙ ap (λ k. noted links r (k + 1) (next .link .result .0)) e) (second .set-link2 .ensures ∙ ap (noted (first .set-link .last .0) o (word .first-word .result)) (second .before .position-of .ensures) ∙ ap (λ k. noted (first .set-link .last .0) o k (r + 1)) e)
 
 returns-2 : tie.Need-returns-2
 returns-2 c =
@@ -105,12 +102,11 @@ link-spec =
     parent-requires
     has-row-requires
     first-word-requires
-    note-requires
-    add-set-note
-    set-note-requires
-    cast-set-note
-    add-set-note-2
-    set-note-requires-2
+    link-requires
+    add-set-link
+    set-link-requires
+    position-of-requires
+    set-link-requires-2
     same-length
     returns
     returns-2

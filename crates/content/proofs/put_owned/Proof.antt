@@ -26,13 +26,13 @@ first-requires c κs =
 loop-holds : tie.Need-loop-holds Inv-loop μ-loop
 loop-holds c =
     let s = c .before .before .before .before .before .before in
-    (s .pre .0, s .pre .1 .0, left-start (s .args .table .now) (s .args .pool .now) (s .args .links .now) (s .args .row .0) (s .pre .0) (s .pre .1 .0) (s .args .out .now) (s .args .at) (c .first .result) (c .first .ensures))
+    (s .pre .0, s .pre .1 .0, left-start (s .args .table .now) (s .args .pool .now) (s .args .links .now) (s .args .row .0) (s .pre .0) (s .pre .1 .0) (s .args .out .now) (s .args .at) (c .first .result .0) (c .first .ensures))
 
-cast-t14 : tie.Need-cast-t14 Inv-loop μ-loop
-cast-t14 c = omega arith
+cast-t15 : tie.Need-cast-t15 Inv-loop μ-loop
+cast-t15 c = omega arith
 
-sub-t15 : tie.Need-sub-t15 Inv-loop μ-loop
-sub-t15 c = omega arith
+sub-t16 : tie.Need-sub-t16 Inv-loop μ-loop
+sub-t16 c = omega arith
 
 put-attribute-requires : tie.Need-put-attribute-requires Inv-loop μ-loop
 put-attribute-requires c κs =
@@ -52,14 +52,14 @@ loop-less c =
     let l = c .before .before .before .before .before .before in
     let s = l .before .before .before .before .before .before .before in
     let taken = c .before .before .before .before .before .loop-test .taken in
-    left-falls (rowCount (s .args .table .now)) (l .loop .position) (c .next .result) taken (left-row (s .args .table .now) (s .args .pool .now) (s .args .links .now) (s .args .row .0) (l .loop .inv .0) (l .loop .inv .1) (s .args .out .now) (s .args .at) (l .loop .inv .2)) (left-later (s .args .table .now) (s .args .pool .now) (s .args .links .now) (s .args .row .0) (l .loop .inv .0) (l .loop .inv .1) (s .args .out .now) (s .args .at) (l .loop .inv .2) taken (c .next .result) (c .next .ensures))
+    left-falls (rowCount (s .args .table .now)) (l .loop .position) (c .next .result .0) taken (left-row (s .args .table .now) (s .args .pool .now) (s .args .links .now) (s .args .row .0) (l .loop .inv .0) (l .loop .inv .1) (s .args .out .now) (s .args .at) (l .loop .inv .2)) (left-later (s .args .table .now) (s .args .pool .now) (s .args .links .now) (s .args .row .0) (l .loop .inv .0) (l .loop .inv .1) (s .args .out .now) (s .args .at) (l .loop .inv .2) taken (c .next .result .0) (c .next .ensures))
 
 loop-again : tie.Need-loop-again Inv-loop μ-loop
 loop-again c =
     let l = c .before .before .before .before .before .before in
     let s = l .before .before .before .before .before .before .before in
     let taken = c .before .before .before .before .before .loop-test .taken in
-    (l .loop .inv .0, l .loop .inv .1, left-next (s .args .table .now) (s .args .pool .now) (s .args .links .now) (s .args .row .0) (l .loop .inv .0) (l .loop .inv .1) (s .args .out .now) (s .args .at) (l .loop .inv .2) taken (c .next .result) (c .next .ensures) (c .before .before .before .put-attribute .ensures))
+    (l .loop .inv .0, l .loop .inv .1, left-next (s .args .table .now) (s .args .pool .now) (s .args .links .now) (s .args .row .0) (l .loop .inv .0) (l .loop .inv .1) (s .args .out .now) (s .args .at) (l .loop .inv .2) taken (c .next .result .0) (c .next .ensures) (c .before .before .before .put-attribute .ensures))
 
 same-length : tie.Need-same-length Inv-loop μ-loop
 same-length c = c .before .loop .inv .2 .size
@@ -78,8 +78,8 @@ put-owned-spec =
     μ-loop
     first-requires
     loop-holds
-    cast-t14
-    sub-t15
+    cast-t15
+    sub-t16
     put-attribute-requires
     next-requires
     loop-less

@@ -52,7 +52,7 @@ is-writable-requires c κs =
     let less = ltb-true (l .loop .r) (rowCount t) (sym (c .before .before .before .before .before .before .before .before .before .before .has-row .ensures) ∙ c .before .before .before .before .before .before .before .before .before .if1 .taken) in
     let a = c .before .before .before .before .before .before .approach in
     let w = s .pre .0 .1 in
-    (less, asked (walkable-kept (walkable-kept w (l .loop .tops) (l .loop .path) (l .loop .inv .topsLength) (l .loop .inv .pathLength) (l .loop .inv .xml)) _ _ (a .kept .1 .1 .0) (a .kept .1 .1 .1 .0) (a .ensures .1 .1 .1)) (a .result) (a .ensures .0 .0) (l .loop .r) less)
+    (less, asked (walkable-kept (walkable-kept w (l .loop .tops) (l .loop .path) (l .loop .inv .topsLength) (l .loop .inv .pathLength) (l .loop .inv .xml)) _ _ (a .kept .1 .1 .0) (a .kept .1 .1 .1 .0) (a .ensures .1 .1 .1)) (a .result .0) (a .ensures .0 .0) (l .loop .r) less)
 
 go-requires : tie.Need-go-requires Inv-loop μ-loop
 go-requires c κs =

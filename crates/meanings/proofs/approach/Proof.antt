@@ -1,10 +1,14 @@
 -- `meanings::approach` meets its contract.
 -- Assumes nothing.
+use Prim.Native.Nat.{ℕ, _+_, _*_}
+use native.Mathlib.Omega.{arith}
 use mathlib.Core.Path.{sym, ap, _∙_, subst}
+use lib.ListN.{set}
 use borrow.Author.Needs.{needs}
+use Rattle.stacks.specs.Stacks.{PATH, NUMBERED}
 use Rattle.scopes.specs.Standing.{Standing}
-use Rattle.meanings.specs.Writable.{isLeaf}
-use Rattle.meanings.proofs.Names.{ready}
+use Rattle.row_meanings.specs.Tests.{isLeaf}
+use Rattle.meanings.proofs.Names.{few, ready}
 use Rattle.meanings.proofs.Writable.{parent-inner, approached-leaf, noted-standing, noted-walkable, approached-there, approached-moved}
 use Rattle.meanings.proofs.approach.Statement.{statement}
 use Rattle.meanings.proofs.approach.Tie as tie
@@ -27,26 +31,29 @@ nearest-requires c κs =
     let w = s .pre .0 .1 in
     ((_, ready w), (s .pre .1 .1 .0, λ less. s .pre .1 .1 .1 _ less (parent-inner w (s .args .row .0) (s .pre .1 .1 .0) less)))
 
-set-near-requires : tie.Need-set-near-requires
-set-near-requires c κs = search needs
+position-of-requires : tie.Need-position-of-requires
+position-of-requires c κs = let s = c .before .before .before .before .before .before .before .before .before .before in omega (arith, few (s .pre .0 .1), s .pre .1 .1 .0)
+
+set-beside-requires : tie.Need-set-beside-requires
+set-beside-requires c κs = search needs
 
 same-length : tie.Need-same-length
 same-length c = search needs
 
 returns-2 : tie.Need-returns-2
 returns-2 c =
-    let s = c .before .before .before .before .before .before .before .before .before .before .before .before .before .before in
-    let nearest = c .before .before .before .before .before .nearest in
-    approached-there (s .pre .0 .1) (s .args .row .0) (s .pre .1 .1 .0) (s .pre .1 .1 .1) (nearest .result) (nearest .ensures) (c .before .before .before .set-near .ensures)
+    let s = c .before .before .before .before .before .before .before .before .before .before .before .before .before .before .before .before .before in
+    let nearest = c .before .before .before .before .before .before .before .before .nearest in
+    approached-there (s .pre .0 .1) (s .args .row .0) (s .pre .1 .1 .0) (s .pre .1 .1 .1) (nearest .result .0) (nearest .ensures) (c .before .before .before .before .before .set-beside .ensures ∙ ap (λ (k : ℕ). set (s .args .path .now) (PATH * k + NUMBERED) (nearest .result .0)) (c .before .before .before .before .before .before .position-of .ensures))
     (subst (Standing (s .args .table .now) (s .args .notes .now) (s .args .tops .now) (s .args .path .now)) (sym (c .if2 .taken)) (s .pre .1 .0 .0))
 
 go-requires : tie.Need-go-requires
 go-requires c κs =
-    let s = c .before .before .before .before .before .before .before .before .before .before .before .before .before .before .before .before in
-    let nearest = c .before .before .before .before .before .before .before .nearest in
-    let set = c .before .before .before .before .before .set-near .ensures in
+    let s = c .before .before .before .before .before .before .before .before .before .before .before .before .before .before .before .before .before .before .before in
+    let nearest = c .before .before .before .before .before .before .before .before .before .before .nearest in
+    let noted = (c .before .before .before .before .before .before .before .set-beside .ensures ∙ ap (λ (k : ℕ). set (s .args .path .now) (PATH * k + NUMBERED) (nearest .result .0)) (c .before .before .before .before .before .before .before .before .position-of .ensures)) in
     let w = s .pre .0 .1 in
-    (ready (noted-walkable w (s .args .row .0) (s .pre .1 .1 .0) (s .pre .1 .1 .1) (nearest .result) (nearest .ensures) set), ((s .pre .1 .0 .1, nearest .ensures .low), noted-standing w (s .args .row .0) (s .pre .1 .1 .0) (s .pre .1 .1 .1) (nearest .result) (nearest .ensures) set (s .args .from) (s .pre .1 .0 .0)))
+    (ready (noted-walkable w (s .args .row .0) (s .pre .1 .1 .0) (s .pre .1 .1 .1) (nearest .result .0) (nearest .ensures) noted), ((s .pre .1 .0 .1, nearest .ensures .low), noted-standing w (s .args .row .0) (s .pre .1 .1 .0) (s .pre .1 .1 .1) (nearest .result .0) (nearest .ensures) noted (s .args .from .0) (s .pre .1 .0 .0)))
 
 same-length-2 : tie.Need-same-length-2
 same-length-2 c = search needs
@@ -56,10 +63,10 @@ same-length-3 c = search needs
 
 returns-3 : tie.Need-returns-3
 returns-3 c =
-    let s = c .before .before .before .before .before .before .before .before .before .before .before .before .before .before .before .before .before .before .before .before .before in
-    let nearest = c .before .before .before .before .before .before .before .before .before .before .before .before .nearest in
+    let s = c .before .before .before .before .before .before .before .before .before .before .before .before .before .before .before .before .before .before .before .before .before .before .before .before in
+    let nearest = c .before .before .before .before .before .before .before .before .before .before .before .before .before .before .before .nearest in
     let go = c .before .before .before .before .go in
-    approached-moved (s .pre .0 .1) (s .args .row .0) (s .pre .1 .1 .0) (s .pre .1 .1 .1) (nearest .result) (nearest .ensures) (c .before .before .before .before .before .before .before .before .before .before .set-near .ensures) (go .kept .1 .1 .0) (go .kept .1 .1 .1 .0) (go .ensures .0) (go .ensures .1)
+    approached-moved (s .pre .0 .1) (s .args .row .0) (s .pre .1 .1 .0) (s .pre .1 .1 .1) (nearest .result .0) (nearest .ensures) (c .before .before .before .before .before .before .before .before .before .before .before .before .set-beside .ensures ∙ ap (λ (k : ℕ). set (s .args .path .now) (PATH * k + NUMBERED) (nearest .result .0)) (c .before .before .before .before .before .before .before .before .before .before .before .before .before .position-of .ensures)) (go .kept .1 .1 .0) (go .kept .1 .1 .1 .0) (go .ensures .0) (go .ensures .1)
 
 pub approach-spec : {M : Type 1} → statement M
 approach-spec =
@@ -69,7 +76,8 @@ approach-spec =
     is-leaf-requires
     returns
     nearest-requires
-    set-near-requires
+    position-of-requires
+    set-beside-requires
     same-length
     returns-2
     go-requires

@@ -14,10 +14,10 @@ use Rattle.meanings.proofs.check_declared.Statement.{statement}
 use Rattle.meanings.proofs.check_declared.Tie as tie
 
 abbrev Inv-loop : tie.InvT-loop
-Inv-loop table notes tops₀ path₀ flags from position₀ r₀ tops path position r = Checking table notes tops₀ path₀ flags tops path position r
+Inv-loop table notes tops₀ path₀ flags position₀ r₀ tops path position r = Checking table notes tops₀ path₀ flags tops path position r
 
 abbrev μ-loop : tie.MeasureT-loop
-μ-loop table notes tops₀ path₀ flags from position₀ r₀ tops path position r = rowCount table - r
+μ-loop table notes tops₀ path₀ flags position₀ r₀ tops path position r = rowCount table - r
 
 loop-holds : tie.Need-loop-holds Inv-loop μ-loop
 loop-holds c =
@@ -49,7 +49,7 @@ is-unsettled-requires c κs =
     let followed = c .before .before .before .before .before .before .follow in
     let less = ltb-true (l .loop .r) (rowCount (s .args .table .now)) (sym (c .before .before .before .before .before .before .before .before .before .before .has-row .ensures) ∙ c .before .before .before .before .before .before .before .before .before .if1 .taken) in
     let w = s .pre .0 .1 in
-    ((less, s .pre .1 .1), asked (walkable-moved (walkable-moved w (l .loop .tops) (l .loop .path) (l .loop .inv .topsLength) (l .loop .inv .pathLength) (l .loop .inv .untouched)) _ _ (followed .kept .1 .1 .0) (followed .kept .1 .1 .1 .0) (followed .ensures .1 .1)) (followed .result) (followed .ensures .0 .0) (l .loop .r) less)
+    ((less, s .pre .1 .1), asked (walkable-moved (walkable-moved w (l .loop .tops) (l .loop .path) (l .loop .inv .topsLength) (l .loop .inv .pathLength) (l .loop .inv .untouched)) _ _ (followed .kept .1 .1 .0) (followed .kept .1 .1 .1 .0) (followed .ensures .1 .1)) (followed .result .0) (followed .ensures .0 .0) (l .loop .r) less)
 
 same-length : tie.Need-same-length Inv-loop μ-loop
 same-length c = c .before .before .before .before .before .before .before .before .follow .kept .1 .1 .0 ∙ c .before .before .before .before .before .before .before .before .before .before .before .before .before .loop .inv .topsLength
@@ -63,7 +63,7 @@ returns c =
     let s = c .before .before .before .before .before .before .before .before .before .before .before .before .before .before .before .before .before .before .before in
     let followed = c .before .before .before .before .before .before .before .before .follow in
     let less = ltb-true (l .loop .r) (rowCount (s .args .table .now)) (sym (c .before .before .before .before .before .before .before .before .before .before .before .before .has-row .ensures) ∙ c .before .before .before .before .before .before .before .before .before .before .before .if1 .taken) in
-    λ e pool w flagged kind. sym (scan-found (s .args .table .now) pool (undeclared (nodes (s .args .table .now) pool) e) Refusal.Undeclared (l .loop .r) (l .loop .inv .scanning e pool w flagged kind) less (c .before .is-unsettled .result) (c .before .is-unsettled .ensures ∙ unsettled-is (walkable-moved (walkable-moved w (l .loop .tops) (l .loop .path) (l .loop .inv .topsLength) (l .loop .inv .pathLength) (l .loop .inv .untouched)) _ _ (followed .kept .1 .1 .0) (followed .kept .1 .1 .1 .0) (followed .ensures .1 .1)) (s .args .flags .now) e flagged kind (followed .result) (followed .ensures .0 .0) (l .loop .r) less (followed .ensures .1 .0)) (c .if2 .taken))
+    λ e pool w flagged kind. sym (scan-found (s .args .table .now) pool (undeclared (nodes (s .args .table .now) pool) e) Refusal.Undeclared (l .loop .r) (l .loop .inv .scanning e pool w flagged kind) less (c .before .is-unsettled .result) (c .before .is-unsettled .ensures ∙ unsettled-is (walkable-moved (walkable-moved w (l .loop .tops) (l .loop .path) (l .loop .inv .topsLength) (l .loop .inv .pathLength) (l .loop .inv .untouched)) _ _ (followed .kept .1 .1 .0) (followed .kept .1 .1 .1 .0) (followed .ensures .1 .1)) (s .args .flags .now) e flagged kind (followed .result .0) (followed .ensures .0 .0) (l .loop .r) less (followed .ensures .1 .0)) (c .if2 .taken))
 
 add-r : tie.Need-add-r Inv-loop μ-loop
 add-r c =
@@ -93,7 +93,7 @@ loop-again c =
       untouched = λ k. followed .ensures .1 .1 k ∙ l .loop .inv .untouched k;
       standing = followed .ensures .0 .0;
       low = followed .ensures .0 .1;
-      scanning = λ e pool w flagged kind. scan-next (s .args .table .now) pool (undeclared (nodes (s .args .table .now) pool) e) Refusal.Undeclared (l .loop .r) (l .loop .inv .scanning e pool w flagged kind) less (c .before .is-unsettled .result) (c .before .is-unsettled .ensures ∙ unsettled-is (walkable-moved (walkable-moved w (l .loop .tops) (l .loop .path) (l .loop .inv .topsLength) (l .loop .inv .pathLength) (l .loop .inv .untouched)) _ _ (followed .kept .1 .1 .0) (followed .kept .1 .1 .1 .0) (followed .ensures .1 .1)) (s .args .flags .now) e flagged kind (followed .result) (followed .ensures .0 .0) (l .loop .r) less (followed .ensures .1 .0)) (c .if2 .left);
+      scanning = λ e pool w flagged kind. scan-next (s .args .table .now) pool (undeclared (nodes (s .args .table .now) pool) e) Refusal.Undeclared (l .loop .r) (l .loop .inv .scanning e pool w flagged kind) less (c .before .is-unsettled .result) (c .before .is-unsettled .ensures ∙ unsettled-is (walkable-moved (walkable-moved w (l .loop .tops) (l .loop .path) (l .loop .inv .topsLength) (l .loop .inv .pathLength) (l .loop .inv .untouched)) _ _ (followed .kept .1 .1 .0) (followed .kept .1 .1 .1 .0) (followed .ensures .1 .1)) (s .args .flags .now) e flagged kind (followed .result .0) (followed .ensures .0 .0) (l .loop .r) less (followed .ensures .1 .0)) (c .if2 .left);
     }
 
 same-length-3 : tie.Need-same-length-3 Inv-loop μ-loop

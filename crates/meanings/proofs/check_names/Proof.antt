@@ -1,8 +1,10 @@
 -- `meanings::check_names` meets its contract.
 -- Assumes nothing.
 use native.Mathlib.Omega.{arith}
+use mathlib.Core.Path.{subst}
 use Rattle.rules.specs.Table.{nodes}
 use Rattle.rules.specs.declared.Refusal.{Refusal}
+use Rattle.scopes.specs.Standing.{Standing}
 use Rattle.markup.specs.Writing.{lowestRow, isInherited}
 use Rattle.meanings.specs.Names.{undeclared}
 use Rattle.meanings.proofs.Names.{few, ready, open-room, walkable-moved, second-told, first-told}
@@ -10,11 +12,8 @@ use borrow.Author.Needs.{needs}
 use Rattle.meanings.proofs.check_names.Statement.{statement}
 use Rattle.meanings.proofs.check_names.Tie as tie
 
-cast-position : tie.Need-cast-position
-cast-position c = let s = c .before .before .before .before .before .before in record { fits = omega (arith, few (s .pre .0 .1), s .pre .1 .1 .0) }
-
-add-position : tie.Need-add-position
-add-position c = let s = c .before .before .before .before .before .before in record { fits = omega (arith, few (s .pre .0 .1), s .pre .1 .1 .0) }
+position-of-requires : tie.Need-position-of-requires
+position-of-requires c κs = let s = c .before .before .before .before .before in omega (arith, few (s .pre .0 .1), s .pre .1 .1 .0)
 
 go-requires : tie.Need-go-requires
 go-requires c κs =
@@ -53,7 +52,7 @@ returns c =
     let go = c .before .before .before .before .before .before .before .before .before .before .before .before .before .before .before .go in
     λ pool w flagged kind.
     let moved = (walkable-moved w (go .last .1 .1 .0) (go .last .1 .1 .1 .0) (go .kept .1 .1 .0) (go .kept .1 .1 .1 .0) (go .ensures .1)) in
-    second-told (lowestRow (nodes (s .args .table .now) pool) (undeclared (nodes (s .args .table .now) pool) (s .args .element .0)) Refusal.Undeclared) (lowestRow (nodes (s .args .table .now) pool) (isInherited (nodes (s .args .table .now) pool) (s .args .element .0)) Refusal.Inherited) (c .before .before .before .before .before .before .check-declared .ensures (s .args .element .0) pool moved flagged kind) (c .enum-told .given .1) (c .before .before .before .before .before .before .before .before .before .check-inherited .ensures pool (go .last .1 .1 .1 .0) moved (go .ensures .0) (s .pre .1 .1 .0) kind)
+    second-told (lowestRow (nodes (s .args .table .now) pool) (undeclared (nodes (s .args .table .now) pool) (s .args .element .0)) Refusal.Undeclared) (lowestRow (nodes (s .args .table .now) pool) (isInherited (nodes (s .args .table .now) pool) (s .args .element .0)) Refusal.Inherited) (c .before .before .before .before .before .before .check-declared .ensures (s .args .element .0) pool moved flagged kind) (c .enum-told .given .1) (c .before .before .before .before .before .before .before .before .before .check-inherited .ensures pool (go .last .1 .1 .1 .0) moved (subst (Standing (s .args .table .now) (s .args .notes .now) (go .last .1 .1 .0) (go .last .1 .1 .1 .0)) (c .before .before .before .before .before .before .before .before .before .before .before .before .before .before .before .before .before .before .position-of .ensures) (go .ensures .0)) (s .pre .1 .1 .0) kind)
 
 same-length-3 : tie.Need-same-length-3
 same-length-3 c = search needs
@@ -73,8 +72,7 @@ pub check-names-spec : {M : Type 1} → statement M
 check-names-spec =
     tie.close
     (tie.spec
-    cast-position
-    add-position
+    position-of-requires
     go-requires
     check-inherited-requires
     check-declared-requires

@@ -1,0 +1,40 @@
+-- Writing the text of an element that is not refused: what is answered and left.
+use Prim.Native.Nat.{ℕ, _*_, _≤_, _<_}
+use mathlib.Core.Path.{_≡_}
+use mathlib.Core.List.{List}
+use lib.ListN.{length, replicate}
+use lib.Dec.{ltb}
+use Rattle.rules.specs.Table.{nodes, rowCount}
+use Rattle.rules.specs.Refusals.{refusedIf, unlessRefused}
+use Rattle.rules.specs.declared.Refusal.{Refusal}
+use Rattle.notes.specs.Notes.{NOTES}
+use Rattle.bundles.specs.Operations.{WriteOutcome, writeRefused, writeDone}
+use Rattle.markup.specs.Trees.{writtenTree}
+use Rattle.markup.specs.Markup.{markup}
+use Rattle.tags.specs.Marks.{Marked, Pooled}
+use Rattle.content.specs.Content.{Linked}
+
+-- the bytes of a short pool
+abbrev pub FEW-BYTES : ℕ
+FEW-BYTES = 4096
+
+-- A text in an output of so many bytes, or 22.
+unfoldable pub fitted : ℕ → List ℕ → WriteOutcome
+fitted size text = unlessRefused (refusedIf (ltb size (length text)) Refusal.TextRoom) (writeRefused size) (writeDone size text)
+
+-- the text of element e
+unfoldable pub elementText : List ℕ → List ℕ → ℕ → List ℕ
+elementText table pool e = markup (writtenTree (nodes table pool) e)
+
+-- What the text of row e is written from is at hand: links, the mark of the pool, the lengths of its runs if there are any, and fields
+-- that lie in the pool.
+pub record AtHand (table pool links runs : List ℕ) (e : ℕ) : Type 0 where
+  pub within : e < rowCount table
+  pub linked : Linked table links
+  pub marked : Marked pool links runs
+  pub pooled : Pooled table pool
+
+-- Links that are cleared, as many as the table needs.
+pub record Clear (table links : List ℕ) : Type 0 where
+  pub cleared : links ≡ replicate (length links) 0
+  pub room : NOTES * rowCount table ≤ length links

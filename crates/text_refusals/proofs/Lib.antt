@@ -1,0 +1,3 @@
+-- Outcome: writing, stage by stage. Judging: what a row is refused for.
+pub mod Outcome
+pub mod Judging
