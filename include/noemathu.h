@@ -111,7 +111,9 @@
      replace a bundle by its normalized one, copy it back.
    - An output is always written whole. After success the result stands at its
      start, and all that is left over is zero. After a refusal all of it is zero.
-   - NOEMATHU_STACK bytes of stack are enough for any call.
+   - NOEMATHU_STACK bytes of stack are enough for any call, and
+     NOEMATHU_SMALL_STACK for a small bundle: one of up to NOEMATHU_FEW_ROWS rows
+     and NOEMATHU_SHORT_POOL pool bytes.
 
 
    Answers
@@ -122,8 +124,7 @@
    Each answer begins with a refusal: its number, 0 if the call was not refused,
    the row that is at fault, 0 where no row is, and for 3, 12, 13 and 14 the word,
    2, 4, 6 or 8, at which the field at fault begins, 0 for all others; see
-   noemathu_field. The rest of a refused answer is 0: nothing found, no, nothing
-   used.
+   noemathu_field. The rest of a refused answer is 0: nothing found, nothing used.
 
    The first fault is named. The numbers are tried in this order: 30, 31, 32; 1;
    then row after row, each for 2; its fields in order, each for 3 and 12; its
@@ -164,10 +165,18 @@ extern "C" {
    a bundle needs see noemathu_xml_room. */
 #define NOEMATHU_XML_MOST 201124912
 
-/* Bytes of stack that are enough for any call. Measured were at most 60,968 for
-   noemathu_write, 101,960 for noemathu_check and noemathu_read, 113,592 for the
-   lookups, 152,876 for noemathu_write_xml and 192,000 for noemathu_normalize. */
+/* Bytes of stack that are enough for any call. Measured were at most 69,320 for
+   noemathu_write, 112,872 for noemathu_check and noemathu_read, 116,136 for the
+   lookups, 150,144 for noemathu_write_xml and 231,808 for noemathu_normalize. */
 #define NOEMATHU_STACK 262144
+
+/* A small bundle, or a small table and its pool, and the bytes of stack that are
+   enough for any call on one. Measured were at most 16,952 for
+   noemathu_write, 19,512 for noemathu_check and noemathu_read, 20,008 for the
+   lookups, 30,792 for noemathu_write_xml and 32,408 for noemathu_normalize. */
+#define NOEMATHU_FEW_ROWS 64
+#define NOEMATHU_SHORT_POOL 4096
+#define NOEMATHU_SMALL_STACK 40960
 
 /* The parent of a row that has none. */
 #define NOEMATHU_NONE UINT32_C(4294967295)

@@ -1015,19 +1015,24 @@ static void helpers(void)
 /* ---- the stack */
 
 static size_t large_length;
+static uint32_t large_rows;
 
 static void run_nothing(void) {}
 static void run_check(void) { EXPECT(noemathu_check(large, large_length).number == 0); }
-static void run_uri(void) { noemathu_uri_of_prefix(large, large_length, 1023, (const uint8_t *)"p", 1); }
-static void run_prefix(void) { noemathu_prefix_of_uri(large, large_length, 1023, (const uint8_t *)"U", 1); }
-static void run_default(void) { noemathu_default_uri(large, large_length, 1023); }
-static void run_in_scope_uri(void) { noemathu_in_scope_uri(large, large_length, 1023, (const uint8_t *)"p", 1); }
-static void run_in_scope_prefix(void) { noemathu_in_scope_prefix(large, large_length, 1023, (const uint8_t *)"U", 1); }
+static void run_uri(void) { noemathu_uri_of_prefix(large, large_length, large_rows - 1, (const uint8_t *)"p", 1); }
+static void run_prefix(void) { noemathu_prefix_of_uri(large, large_length, large_rows - 1, (const uint8_t *)"U", 1); }
+static void run_default(void) { noemathu_default_uri(large, large_length, large_rows - 1); }
+static void run_in_scope_uri(void) { noemathu_in_scope_uri(large, large_length, large_rows - 1, (const uint8_t *)"p", 1); }
+static void run_in_scope_prefix(void)
+{
+    noemathu_in_scope_prefix(large, large_length, large_rows - 1, (const uint8_t *)"U", 1);
+}
+
 static void run_normalize(void) { noemathu_normalize(large, large_length, large_out, sizeof large_out); }
 static void run_read(void) { noemathu_read(large, large_length, large_table, 12000, large_out, sizeof large_out); }
 static void run_write(void)
 {
-    noemathu_write(large_table, 10240, noemathu_pool(large), noemathu_pool_length(large), large_out, sizeof large_out);
+    noemathu_write(large_table, 10 * large_rows, noemathu_pool(large), noemathu_pool_length(large), large_out, sizeof large_out);
 }
 
 static void run_write_xml(void) { noemathu_write_xml(large, large_length, 0, large_out, sizeof large_out); }
@@ -1058,16 +1063,44 @@ static size_t stack_of(void (*call)(void))
     return SIZE - untouched;
 }
 
+static void (*const calls[])(void) = {run_check, run_uri, run_prefix, run_default, run_in_scope_uri, run_in_scope_prefix,
+                                      run_normalize, run_read, run_write, run_write_xml};
+
+enum { CALLS = sizeof calls / sizeof *calls };
+
+static const uint32_t nested[] = {NOEMATHU_ELEMENT, NOEMATHU_ENTITY_REFERENCE};
+
+static void make_deep(uint32_t rows, size_t bytes, uint32_t type)
+{
+    large_rows = rows;
+    large_length = make_large(rows, bytes, type, true);
+}
+
 /* On the deepest trees there are: rows in each other. */
 static void stack_as_told(void)
 {
-    void (*const calls[])(void) = {run_check, run_uri, run_prefix, run_default, run_in_scope_uri, run_in_scope_prefix,
-                                   run_normalize, run_read, run_write, run_write_xml};
-    const uint32_t types[] = {NOEMATHU_ELEMENT, NOEMATHU_ENTITY_REFERENCE};
     for (size_t t = 0; t < 2; t++) {
-        large_length = make_large(1024, 32768, types[t], true);
-        for (size_t i = 0; i < sizeof calls / sizeof *calls; i++)
+        make_deep(1024, 32768, nested[t]);
+        for (size_t i = 0; i < CALLS; i++)
             EXPECT(stack_of(calls[i]) <= stack_of(run_nothing) + NOEMATHU_STACK);
+    }
+}
+
+/* On the deepest small trees, and on threads that have 64 KB. */
+static void small_stack_as_told(void)
+{
+    for (size_t t = 0; t < 2; t++) {
+        make_deep(NOEMATHU_FEW_ROWS, NOEMATHU_SHORT_POOL, nested[t]);
+        for (size_t i = 0; i < CALLS; i++) {
+            void (*call)(void) = calls[i];
+            pthread_attr_t attributes;
+            pthread_t thread;
+            EXPECT(stack_of(call) <= stack_of(run_nothing) + NOEMATHU_SMALL_STACK);
+            pthread_attr_init(&attributes);
+            EXPECT(pthread_attr_setstacksize(&attributes, 65536) == 0);
+            EXPECT(pthread_create(&thread, &attributes, run, &call) == 0);
+            EXPECT(pthread_join(thread, NULL) == 0);
+        }
     }
 }
 
@@ -1121,6 +1154,7 @@ int main(void)
     beyond_the_limits();
     helpers();
     stack_as_told();
+    small_stack_as_told();
     calls_at_once();
     printf("boundary: %lu checks hold\n", checks);
     return 0;

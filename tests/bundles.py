@@ -1,5 +1,6 @@
 """A second reading of session bundles, over the second reading of the rules: what a bundle is, and what each function of
-the C interface answers and leaves in its outputs. It is written from the rules, without a look at the library.
+the C interface answers and leaves in its outputs. It is written from the rules, without a look at the library, but for XML
+text (reading.py).
 
 A bundle, a pool and a query are strings of bytes, a table is a sequence of words, a row a number.
 

@@ -1,5 +1,6 @@
 """A second reading of the rules: the check of a node table, the lookups, normalization and XML text, as docs/RULES.md says
-them, in its order and words, written without a look at the library. tests/compare holds the library to it.
+them, in its order and words. The check, the lookups and normalization were written without a look at the library, XML text
+after its definitions had been read. tests/compare holds the library to it.
 
 A table is a sequence of words, a pool a string of bytes, a row a number, a query a string of bytes.
 

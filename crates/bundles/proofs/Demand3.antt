@@ -11,9 +11,10 @@ use lib.Seq.{take-at}
 use lib.Dec.{T, ltb}
 use borrow.Author.Tests.{ltb-false}
 use Rattle.rules.specs.Table.{WIDTH, MOST-ROWS, MOST-BYTES, nodes, words}
-use Rattle.rules.specs.Answers.{normalizedNumber, writtenNumber, writtenBytes}
+use Rattle.rules.specs.Answers.{filledNumber, writtenNumber, writtenBytes}
 use Rattle.rules.specs.Refusals.{refusedIf, firstRefusal, unlessRefused, checkRefusal}
-use Rattle.rules.specs.Normalization.{State, normalForm, padded, success, tooManyRows, tooManyBytes, level1Refusal, roomRefusal, normalizationRefusal, normalized}
+use Rattle.rules.specs.Outputs.{padded}
+use Rattle.rules.specs.Normalization.{State, normalForm, success, tooManyRows, tooManyBytes, level1Refusal, roomRefusal, normalizationRefusal, normalized}
 use Rattle.rules.specs.Demands.{succeeded, resultRows}
 use Rattle.rules.specs.declared.Refusal.{Refusal}
 use Rattle.rules.proofs.Lists.{both-false, T-true, true-not-false}
@@ -34,21 +35,21 @@ refused-not-done : (size : ℕ) (x : Refusal) → bundleDone (writeRefused size 
 unfolding bundleDone writeRefused writtenNumber
 refused-not-done size x = refusal-numbered x
 
-done-unrefused : (o : Option Refusal) (size : ℕ) (answer : WriteOutcome) → bundleDone (unlessRefused o (writeRefused size) answer) ≡ true → o ≡ none
+pub done-unrefused : (o : Option Refusal) (size : ℕ) (answer : WriteOutcome) → bundleDone (unlessRefused o (writeRefused size) answer) ≡ true → o ≡ none
 done-unrefused none size answer e = refl
 done-unrefused (some x) size answer e = absurd (true-not-false e (refused-not-done size x))
 
 -- What a written normalization tells of a table and its pool.
 module _ (table pool : List ℕ) (none? : normalizationRefusal table pool (WIDTH * MOST-ROWS) MOST-BYTES ≡ none) where
-  abbrev result : State
+  abbrev pub result : State
   result = normalForm (nodes table pool) pool
 
-  normal : normalized table pool (WIDTH * MOST-ROWS) MOST-BYTES ≡ success (WIDTH * MOST-ROWS) MOST-BYTES result
+  pub normal : normalized table pool (WIDTH * MOST-ROWS) MOST-BYTES ≡ success (WIDTH * MOST-ROWS) MOST-BYTES result
   unfolding normalized
   normal = rw none? refl
 
-  success-told : T (succeeded (normalized table pool (WIDTH * MOST-ROWS) MOST-BYTES))
-  unfolding succeeded success normalizedNumber
+  pub success-told : T (succeeded (normalized table pool (WIDTH * MOST-ROWS) MOST-BYTES))
+  unfolding succeeded success filledNumber
   success-told = rw normal tt
 
   accepted : checkRefusal table pool ≡ none
@@ -82,7 +83,7 @@ module _ (table pool : List ℕ) (none? : normalizationRefusal table pool (WIDTH
         words = normal-words table pool (unrefused table pool accepted) few-bytes;
       }
 
-  stands : StandsFor (stateBundle result) (words (result .rows)) (result .pool)
+  pub stands : StandsFor (stateBundle result) (words (result .rows)) (result .pool)
   unfolding stateBundle
   stands = written-stands (words (result .rows)) (result .pool) writable
 
@@ -94,16 +95,16 @@ module _ (table pool : List ℕ) (none? : normalizationRefusal table pool (WIDTH
       ∙ sym (result-is table pool (WIDTH * MOST-ROWS) MOST-BYTES (succeeds table pool (WIDTH * MOST-ROWS) MOST-BYTES success-told))
 
 -- The bundle that is written.
-written-bundle : (size : ℕ) (bundle : List ℕ) → resultBundle (writeDone size bundle) ≡ bundle
+pub written-bundle : (size : ℕ) (bundle : List ℕ) → resultBundle (writeDone size bundle) ≡ bundle
 unfolding resultBundle writeDone writtenBytes padded
 written-bundle size bundle = take-at bundle (replicate (size - length bundle) 0) (length bundle) refl
 
 -- What success tells of the normalization of a bundle.
-record BundleSucceeds (bytes : List ℕ) (size : ℕ) : Type 0 where
-  normal : normalizationRefusal (bundleTable bytes) (bundlePool bytes) (WIDTH * MOST-ROWS) MOST-BYTES ≡ none
-  bundle : resultBundle (bundleNormalized bytes size) ≡ stateBundle (normalForm (bundleNodes bytes) (bundlePool bytes))
+pub record BundleSucceeds (bytes : List ℕ) (size : ℕ) : Type 0 where
+  pub normal : normalizationRefusal (bundleTable bytes) (bundlePool bytes) (WIDTH * MOST-ROWS) MOST-BYTES ≡ none
+  pub bundle : resultBundle (bundleNormalized bytes size) ≡ stateBundle (normalForm (bundleNodes bytes) (bundlePool bytes))
 
-bundle-succeeds : (bytes : List ℕ) (size : ℕ) → T (bundleDone (bundleNormalized bytes size)) → BundleSucceeds bytes size
+pub bundle-succeeds : (bytes : List ℕ) (size : ℕ) → T (bundleDone (bundleNormalized bytes size)) → BundleSucceeds bytes size
 unfolding bundleNormalized normalizedInto bundleWritten
 bundle-succeeds bytes size t =
     let table = bundleTable bytes in

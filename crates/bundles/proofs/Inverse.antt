@@ -19,7 +19,7 @@ use Rattle.rules.proofs.Accepted.{Accepted, unrefused}
 use Rattle.buffers.proofs.Rows.{words-of-rows}
 use Rattle.little_endian.specs.Numbers.{isByte, bytesOf, wordBytes, wordsFrom}
 use Rattle.little_endian.proofs.Numbers.{isWord, number-bytes, all-drop, number-back, words-written, rest-written, words-read, length-wordsFrom}
-use Rattle.bundles.specs.Bundles.{MARK, VERSION, HEADER, ROW-BYTES, writeBundle, bundleRows, bundlePoolLength, wrongMark, otherVersion, badLengths, bundleRefusal, bundleTable, bundlePool}
+use Rattle.bundles.specs.Bundles.{MARK, VERSION, HEADER, poolStart, writeBundle, bundleRows, bundlePoolLength, wrongMark, otherVersion, badLengths, bundleRefusal, bundleTable, bundlePool}
 use Rattle.bundles.specs.Inverse.{StandsFor, ReadsBack, WritesBack}
 use Rattle.bundles.proofs.Opening.{Agreed, agreed}
 use Rattle.bundles.proofs.Writing.{length-bundle}
@@ -60,7 +60,7 @@ module _ (table pool : List ℕ) (can : Writable table pool) where
   pool-back =
       let rows = rows-back in
       let whole = can .whole in
-      let place : HEADER + ROW-BYTES * bundleRows (writeBundle table pool) ≡ HEADER + 4 * length table = omega arith in
+      let place : poolStart (bundleRows (writeBundle table pool)) ≡ HEADER + 4 * length table = omega arith in
       ap (λ (n : ℕ). drop n (writeBundle table pool)) place
       ∙ sym (drop-drop (4 * length table) HEADER (writeBundle table pool))
       ∙ ap (drop (4 * length table)) behind-header
@@ -87,7 +87,7 @@ module _ (table pool : List ℕ) (can : Writable table pool) where
       let size = pool-length-back in
       let whole = can .whole in
       let enough : HEADER ≤ length bytes = omega arith in
-      let same : length bytes ≡ HEADER + ROW-BYTES * bundleRows bytes + bundlePoolLength bytes = omega arith in
+      let same : length bytes ≡ poolStart (bundleRows bytes) + bundlePoolLength bytes = omega arith in
       rw (le-ltb (length bytes) HEADER enough, written-zero, eq-eqb _ _ same) refl
 
   pub written-stands : StandsFor (writeBundle table pool) table pool
@@ -145,7 +145,7 @@ module _ (bytes : List ℕ) (all : allOf isByte bytes ≡ true) (known : Agreed 
   unfolding bundlePool
   size-read =
       let total = known .total in
-      let cut = length-drop (HEADER + ROW-BYTES * bundleRows bytes) bytes in
+      let cut = length-drop (poolStart (bundleRows bytes)) bytes in
       omega arith
 
   behind-read : wordBytes (bundleTable bytes) ++ bundlePool bytes ≡ drop HEADER bytes
@@ -155,7 +155,7 @@ module _ (bytes : List ℕ) (all : allOf isByte bytes ≡ true) (known : Agreed 
       let rest = drop HEADER bytes in
       let total = known .total in
       let long = length-drop HEADER bytes in
-      let place : HEADER + 4 * count ≡ HEADER + ROW-BYTES * bundleRows bytes = omega arith in
+      let place : HEADER + 4 * count ≡ poolStart (bundleRows bytes) = omega arith in
       ap (λ (l : List ℕ). wordBytes (wordsFrom count rest) ++ l) (sym (drop-drop (4 * count) HEADER bytes ∙ ap (λ (n : ℕ). drop n bytes) place))
       ∙ words-read count rest (all-drop HEADER bytes all) (omega arith)
 

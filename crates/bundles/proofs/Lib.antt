@@ -1,4 +1,5 @@
--- Inverse: reader and writer undo each other. Words: the numbers of a table fit into words. Demand3: demand 3 over bundles. Cases: the
+-- Inverse: reader and writer undo each other. Words: the numbers of a table fit into words. Demand3: demand 3 over bundles. Calls: that
+-- the calls undo each other, and that what is normalized passes the check. Cases: the
 -- documents' examples. Opening: what the tests of a bundle's beginning tell. Writing: what the writes leave. Over: what an operation
 -- answers, once a bundle is open.
 pub mod Opening
@@ -7,4 +8,5 @@ pub mod Over
 pub mod Words
 pub mod Inverse
 pub mod Demand3
+pub mod Calls
 pub mod Cases

@@ -6,12 +6,12 @@ use mathlib.Core.Bool.{true, false, _||_, not, true≢false}
 use mathlib.Core.List.{List, [], _∷_}
 use mathlib.Core.Option.{none, some}
 use native.Mathlib.Omega.{arith}
-use lib.ListN.{length, getD, take, drop, length-drop}
-use lib.Seq.{take-all, take-at}
+use lib.ListN.{length, getD, take, drop, replicate, length-drop, length-replicate}
+use lib.Seq.{take-all, take-at, length-take-le}
 use lib.Dec.{eqb, ltb}
 use borrow.Author.Tests.{ltb-false, lt-ltb, le-ltb, eqb-true, eq-eqb, ne-eqb}
 use Rattle.rules.specs.Lists.{sameBytes}
-use Rattle.rules.specs.Table.{WIDTH, MOST-ROWS, MOST-BYTES}
+use Rattle.rules.specs.Table.{WIDTH, MOST-ROWS, MOST-BYTES, rowCount}
 use Rattle.rules.specs.Refusals.{refusedIf, badSize, verdict}
 use Rattle.rules.specs.declared.Refusal.{Refusal}
 use Rattle.rules.specs.declared.Checked.{Checked}
@@ -22,8 +22,8 @@ use Rattle.buffers.proofs.Writes.{written-from-start, length-written}
 use Rattle.rules.proofs.Lists.{both-false, not-false, unequal-sameBytes}
 use Rattle.little_endian.specs.Numbers.{bytesOf, wordsFrom}
 use Rattle.little_endian.proofs.Numbers.{length-wordsFrom}
-use Rattle.bundles.specs.Bundles.{MARK, VERSION, HEADER, ROW-BYTES, bundleRows, bundlePoolLength, wrongMark, otherVersion, badLengths, bundleRefusal, bundleTable, bundlePool}
-use Rattle.bundles.specs.Opening.{openingRefusal, Opens}
+use Rattle.bundles.specs.Bundles.{MARK, VERSION, HEADER, poolStart, bundleRows, bundlePoolLength, wrongMark, otherVersion, badLengths, bundleRefusal, bundleTable, bundlePool}
+use Rattle.bundles.specs.Opening.{openingRefusal, NamesAtMost, HasRoom, Opens}
 use Rattle.bundles.specs.declared.Opened.{Opened}
 
 -- Bytes that are too few for what they are compared with.
@@ -52,7 +52,7 @@ module _ (bytes : List ℕ) where
   unfolding badLengths
   zero-other h e = rw (le-ltb (length bytes) HEADER h, ne-eqb (getD bytes 5 0) 0 e) refl
 
-  pub lengths-told : HEADER ≤ length bytes → getD bytes 5 0 ≡ 0 → not (eqb (length bytes) (HEADER + ROW-BYTES * bundleRows bytes + bundlePoolLength bytes)) ≡ badLengths bytes
+  pub lengths-told : HEADER ≤ length bytes → getD bytes 5 0 ≡ 0 → not (eqb (length bytes) (poolStart (bundleRows bytes) + bundlePoolLength bytes)) ≡ badLengths bytes
   unfolding badLengths
   lengths-told h e = rw (le-ltb (length bytes) HEADER h, eq-eqb (getD bytes 5 0) 0 e) refl
 
@@ -60,17 +60,17 @@ module _ (bytes : List ℕ) where
 pub record Agreed (bytes : List ℕ) : Type 0 where
   pub header : HEADER ≤ length bytes
   pub zeroByte : getD bytes 5 0 ≡ 0
-  pub total : length bytes ≡ HEADER + ROW-BYTES * bundleRows bytes + bundlePoolLength bytes
+  pub total : length bytes ≡ poolStart (bundleRows bytes) + bundlePoolLength bytes
 
 pub agreed : (bytes : List ℕ) → badLengths bytes ≡ false → Agreed bytes
 unfolding badLengths
 agreed bytes e =
-    let outer = both-false (ltb (length bytes) HEADER || not (eqb (getD bytes 5 0) 0)) (not (eqb (length bytes) (HEADER + ROW-BYTES * bundleRows bytes + bundlePoolLength bytes))) e in
+    let outer = both-false (ltb (length bytes) HEADER || not (eqb (getD bytes 5 0) 0)) (not (eqb (length bytes) (poolStart (bundleRows bytes) + bundlePoolLength bytes))) e in
     let inner = both-false (ltb (length bytes) HEADER) (not (eqb (getD bytes 5 0) 0)) (outer .0) in
     record {
       header = ltb-false (length bytes) HEADER (inner .0);
       zeroByte = eqb-true (getD bytes 5 0) 0 (not-false (eqb (getD bytes 5 0) 0) (inner .1));
-      total = eqb-true (length bytes) (HEADER + ROW-BYTES * bundleRows bytes + bundlePoolLength bytes) (not-false (eqb (length bytes) (HEADER + ROW-BYTES * bundleRows bytes + bundlePoolLength bytes)) (outer .1));
+      total = eqb-true (length bytes) (poolStart (bundleRows bytes) + bundlePoolLength bytes) (not-false (eqb (length bytes) (poolStart (bundleRows bytes) + bundlePoolLength bytes)) (outer .1));
     }
 
 pub length-table : (bytes : List ℕ) → length (bundleTable bytes) ≡ WIDTH * bundleRows bytes
@@ -80,7 +80,7 @@ length-table bytes = length-wordsFrom (WIDTH * bundleRows bytes) (drop HEADER by
 pub length-pool : (bytes : List ℕ) → Agreed bytes → length (bundlePool bytes) ≡ bundlePoolLength bytes
 unfolding bundlePool
 length-pool bytes known =
-    let cut = length-drop (HEADER + ROW-BYTES * bundleRows bytes) bytes in
+    let cut = length-drop (poolStart (bundleRows bytes)) bytes in
     let total = known .total in
     omega arith
 
@@ -159,12 +159,34 @@ behind-header bytes =
     let long = length-drop HEADER bytes in
     take-all (length bytes - HEADER) (drop HEADER bytes) (omega arith)
 
+-- A new buffer has room for the rows that it was made for.
+pub new-room : (bytes : List ℕ) (most u : ℕ) → (HEADER ≤ length bytes → bundleRows bytes ≤ MOST-ROWS → bundleRows bytes ≤ most) → HasRoom bytes (replicate (WIDTH * most) u)
+new-room bytes most u fits header few =
+    let size = length-replicate {A = ℕ} (WIDTH * most) u in
+    omega (arith, fits header few)
+
+-- The row count that was read.
+pub named : (bytes : List ℕ) (rows most : ℕ) → (HEADER ≤ length bytes → rows ≡ bundleRows bytes) → rows ≤ most → NamesAtMost bytes most
+named bytes rows most read small header =
+    let is = read header in
+    omega arith
+
+-- The rows of a bundle that names few are few.
+pub opened-few : (bytes buffer : List ℕ) (n : ℕ) → Opens bytes buffer n → (most : ℕ) → NamesAtMost bytes most → rowCount (take (WIDTH * n) buffer) ≤ most
+opened-few bytes buffer n is most names =
+    let inside = is .inside in
+    let few = names (omega arith) in
+    let rows = is .rows in
+    let long = length-take-le (WIDTH * n) buffer (is .room) in
+    omega arith
+
 -- The rows, read into the start of a buffer.
-pub opens : (bytes buffer : List ℕ) (n : ℕ) (left : List ℕ) → length buffer ≡ WIDTH * MOST-ROWS → Ready bytes → n ≡ bundleRows bytes → left ≡ written buffer 0 (wordsFrom (WIDTH * n) (drop HEADER bytes)) → Opens bytes left n
+pub opens : (bytes buffer : List ℕ) (n : ℕ) (left : List ℕ) → HasRoom bytes buffer → Ready bytes → n ≡ bundleRows bytes → left ≡ written buffer 0 (wordsFrom (WIDTH * n) (drop HEADER bytes)) → Opens bytes left n
 unfolding bundleTable
-opens bytes buffer n left size can is read =
+opens bytes buffer n left has can is read =
     let total = can .known .total in
     let few = can .few in
+    let size = has (can .known .header) few in
     let words = wordsFrom (WIDTH * n) (drop HEADER bytes) in
     let long : length words ≡ WIDTH * n = length-wordsFrom (WIDTH * n) (drop HEADER bytes) in
     record {

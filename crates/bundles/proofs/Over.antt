@@ -1,6 +1,6 @@
 -- What an operation over bundle bytes answers, once opening the bundle has answered.
 -- Assumes nothing.
-use Prim.Native.Nat.{ℕ, _+_, _*_, _≤_}
+use Prim.Native.Nat.{ℕ, _*_, _≤_}
 use mathlib.Core.Path.{_≡_, refl, sym, ap, _∙_}
 use mathlib.Core.Bool.{Bool, true, false}
 use mathlib.Core.List.{List, [], _∷_}
@@ -17,8 +17,9 @@ use Rattle.rules.specs.declared.Checked.{Checked}
 use Rattle.rules.specs.declared.Located.{Located}
 use Rattle.rules.specs.declared.Bound.{Bound}
 use Rattle.rules.proofs.DefaultUri.{default-test}
-use Rattle.bundles.specs.Bundles.{HEADER, ROW-BYTES, bundleRefusal, bundleTable, bundlePool}
-use Rattle.bundles.specs.Operations.{readRefused, tableReadRefusal, tableRead, writeRefused, bundleWritten, overBundle, bundleRead, bundleChecked, bundleLookup, bundlePrefixOfUri, bundleDefaultUri, normalizedInto, bundleNormalized}
+use Rattle.bundles.specs.Bundles.{poolStart, bundleRefusal, bundleTable, bundlePool}
+use Rattle.rules.specs.Outputs.{refusal}
+use Rattle.bundles.specs.Operations.{tableReadRefusal, tableRead, writeRefused, bundleWritten, overBundle, bundleRead, bundleChecked, bundleLookup, bundlePrefixOfUri, bundleDefaultUri, normalizedInto, bundleNormalized}
 use Rattle.bundles.specs.Opening.{openingRefusal, Opens}
 use Rattle.bundles.specs.Demands.{bundleNodes, BundleDefaultTest}
 
@@ -36,7 +37,7 @@ module _ (table pool : List ℕ) (x : Refusal) (e : checkRefusal table pool ≡ 
   unfolding lookupAt
   answer-refused question r q = rw (lookup-refused r) refl
 
-  read-refused : (tableSize poolSize : ℕ) → tableRead table pool tableSize poolSize ≡ readRefused tableSize poolSize x
+  read-refused : (tableSize poolSize : ℕ) → tableRead table pool tableSize poolSize ≡ refusal tableSize poolSize x
   unfolding tableRead tableReadRefusal
   read-refused tableSize poolSize = rw e refl
 
@@ -77,19 +78,19 @@ module _ (bytes : List ℕ) (x : Refusal) (e : openingRefusal bytes ≡ some x) 
   unfolding bundleLookup
   lookup-not-open question r q = over-refused bytes Bound.Refused (λ t p. lookupAt question t p r q) x e (λ s. answer-refused _ _ Refusal.Size s question r q)
 
-  pub read-not-open : (tableSize poolSize : ℕ) → bundleRead bytes tableSize poolSize ≡ readRefused tableSize poolSize x
+  pub read-not-open : (tableSize poolSize : ℕ) → bundleRead bytes tableSize poolSize ≡ refusal tableSize poolSize x
   unfolding bundleRead
-  read-not-open tableSize poolSize = over-refused bytes (readRefused tableSize poolSize) (λ t p. tableRead t p tableSize poolSize) x e (λ s. read-refused _ _ Refusal.Size s tableSize poolSize)
+  read-not-open tableSize poolSize = over-refused bytes (refusal tableSize poolSize) (λ t p. tableRead t p tableSize poolSize) x e (λ s. read-refused _ _ Refusal.Size s tableSize poolSize)
 
   pub normalize-not-open : (size : ℕ) → bundleNormalized bytes size ≡ writeRefused size x
   unfolding bundleNormalized
   normalize-not-open size = over-refused bytes (writeRefused size) (λ t p. normalizedInto t p size) x e (λ s. normalized-refused _ _ Refusal.Size s size)
 
 -- And where it does not: that of the table and the pool.
-module _ (bytes buffer : List ℕ) (n : ℕ) (is : Opens bytes buffer n) (pool : List ℕ) (e : pool ≡ drop (HEADER + ROW-BYTES * n) bytes) where
+module _ (bytes buffer : List ℕ) (n : ℕ) (is : Opens bytes buffer n) (pool : List ℕ) (e : pool ≡ drop (poolStart n) bytes) where
   opened-pool : bundlePool bytes ≡ pool
   unfolding bundlePool
-  opened-pool = ap (λ (k : ℕ). drop (HEADER + ROW-BYTES * k) bytes) (is .rows) ∙ sym e
+  opened-pool = ap (λ (k : ℕ). drop (poolStart k) bytes) (is .rows) ∙ sym e
 
   pub pool-short : length pool ≤ MOST-BYTES
   pool-short = rw (sym opened-pool) (is .short)
@@ -110,7 +111,7 @@ module _ (bytes buffer : List ℕ) (n : ℕ) (is : Opens bytes buffer n) (pool :
 
   pub read-open : (tableSize poolSize : ℕ) → tableRead (take (WIDTH * n) buffer) pool tableSize poolSize ≡ bundleRead bytes tableSize poolSize
   unfolding bundleRead
-  read-open tableSize poolSize = over-open (readRefused tableSize poolSize) (λ t p. tableRead t p tableSize poolSize)
+  read-open tableSize poolSize = over-open (refusal tableSize poolSize) (λ t p. tableRead t p tableSize poolSize)
 
   pub normalize-open : (size : ℕ) → normalizedInto (take (WIDTH * n) buffer) pool size ≡ bundleNormalized bytes size
   unfolding bundleNormalized

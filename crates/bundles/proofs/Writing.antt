@@ -9,7 +9,7 @@ use lib.ListN.{length, take, drop, replicate, length-append}
 use lib.Seq.{take-append-seam}
 use borrow.Author.Tests.{lt-ltb, le-ltb}
 use Rattle.rules.specs.Table.{rowCount}
-use Rattle.rules.specs.Normalization.{padded}
+use Rattle.rules.specs.Outputs.{padded}
 use Rattle.rules.specs.declared.Refusal.{Refusal}
 use Rattle.rules.specs.declared.Written.{Written}
 use Rattle.buffers.specs.Writes.{written, cleared}

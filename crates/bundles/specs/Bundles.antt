@@ -25,6 +25,10 @@ HEADER = 12
 abbrev pub ROW-BYTES : ℕ
 ROW-BYTES = 4 * WIDTH
 
+-- Where the pool of a bundle of so many rows starts.
+abbrev pub poolStart : ℕ → ℕ
+poolStart rows = HEADER + ROW-BYTES * rows
+
 -- The bytes before the rows: the mark, the version, a zero byte, the row count and the pool length.
 abbrev pub headerBytes : ℕ → ℕ → List ℕ
 headerBytes rows bytes = MARK ++ (bytesOf 2 VERSION ++ ((0 ∷ []) ++ (bytesOf 2 rows ++ bytesOf 4 bytes)))
@@ -52,7 +56,7 @@ otherVersion bytes = not (sameBytes (part bytes 3 2) (bytesOf 2 VERSION))
 unfoldable pub badLengths : List ℕ → Bool
 badLengths bytes =
     ltb (length bytes) HEADER || not (eqb (getD bytes 5 0) 0)
-    || not (eqb (length bytes) (HEADER + ROW-BYTES * bundleRows bytes + bundlePoolLength bytes))
+    || not (eqb (length bytes) (poolStart (bundleRows bytes) + bundlePoolLength bytes))
 
 -- What bytes are refused for that are no bundle.
 unfoldable pub bundleRefusal : List ℕ → Option Refusal
@@ -68,4 +72,4 @@ unfoldable pub bundleTable : List ℕ → List ℕ
 bundleTable bytes = wordsFrom (WIDTH * bundleRows bytes) (drop HEADER bytes)
 
 unfoldable pub bundlePool : List ℕ → List ℕ
-bundlePool bytes = drop (HEADER + ROW-BYTES * bundleRows bytes) bytes
+bundlePool bytes = drop (poolStart (bundleRows bytes)) bytes

@@ -6,9 +6,10 @@ use mathlib.Core.List.{List, [], _∷_, _++_, map}
 use lib.ListN.{take, replicate}
 use Rattle.rules.specs.Lists.{allOf, numbersFrom, sameBytes}
 use Rattle.rules.specs.Table.{NONE}
-use Rattle.rules.specs.Answers.{checkNumber, readNumber, readRows, readBytes, writtenNumber, writtenBytes}
+use Rattle.rules.specs.Answers.{checkNumber, filledNumber, filledRows, filledBytes, writtenNumber, writtenBytes}
 use Rattle.bundles.specs.Bundles.{writeBundle}
-use Rattle.bundles.specs.Operations.{ReadOutcome, WriteOutcome, tableWritten, bundleRead, bundleChecked, bundleNormalized}
+use Rattle.rules.specs.Outputs.{Outcome}
+use Rattle.bundles.specs.Operations.{WriteOutcome, tableWritten, bundleRead, bundleChecked, bundleNormalized}
 
 -- The refusal's number, row and word of the check of a bundle.
 unfoldable pub checkGives : List ℕ → List ℕ
@@ -16,9 +17,9 @@ checkGives bytes =
     checkNumber (bundleChecked bytes) .number ∷ checkNumber (bundleChecked bytes) .row ∷ checkNumber (bundleChecked bytes) .word ∷ []
 
 -- The refusal's number, row and word, the rows and the pool bytes, and the two outputs.
-unfoldable pub readGives : ReadOutcome → List (List ℕ)
+unfoldable pub readGives : Outcome → List (List ℕ)
 readGives o =
-    (readNumber (o .answer) .number ∷ readNumber (o .answer) .row ∷ readNumber (o .answer) .word ∷ readRows (o .answer) ∷ readBytes (o .answer) ∷ [])
+    (filledNumber (o .answer) .number ∷ filledNumber (o .answer) .row ∷ filledNumber (o .answer) .word ∷ filledRows (o .answer) ∷ filledBytes (o .answer) ∷ [])
     ∷ o .table ∷ o .pool ∷ []
 
 -- The refusal's number, row and word, the bytes, and the output.

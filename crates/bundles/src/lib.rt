@@ -1,16 +1,15 @@
 // Session bundles: a node table and its pool as bytes. Reading the rows of a bundle, and writing a bundle.
 ghost use mathlib.Core.Path.{_≡_};
 ghost use mathlib.Core.Option.{none, some};
-ghost use Prim.Native.Nat.{ℕ, _+_, _*_, _≤_, _<_};
+ghost use Prim.Native.Nat.{ℕ, _≤_, _<_};
 ghost use lib.ListN.{length, drop};
-ghost use Rattle.rules.specs.Table.{WIDTH, MOST-ROWS};
 ghost use Rattle.rules.specs.Refusals.{verdict};
 ghost use Rattle.rules.specs.declared.Refusal.{Refusal};
 ghost use Rattle.rules.proofs.Accepted.{Sized};
-ghost use Rattle.bundles.specs.Bundles.{HEADER, ROW-BYTES, headerBytes, writeBundle, bundleRows, bundlePoolLength, wrongMark, otherVersion, badLengths};
+ghost use Rattle.bundles.specs.Bundles.{HEADER, poolStart, headerBytes, writeBundle, bundleRows, bundlePoolLength, wrongMark, otherVersion, badLengths};
 ghost use Rattle.buffers.specs.Writes.{written};
 ghost use Rattle.bundles.specs.Operations.{writeRefused, bundleWritten};
-ghost use Rattle.bundles.specs.Opening.{openingRefusal, Opens};
+ghost use Rattle.bundles.specs.Opening.{openingRefusal, HasRoom, Opens};
 ghost use Rattle.bundles.specs.declared.Opened.{Opened};
 use rules::Checked;
 use rules::Offset;
@@ -21,6 +20,9 @@ use rules::Written;
 const HEADER: usize = 12;
 
 const ROW_BYTES: usize = 4 * rules::WIDTH;
+
+// The pool bytes of a small bundle.
+pub const SHORT_POOL: usize = 4096;
 
 // `NTB`, and the version's two bytes.
 const MARK: [u8; 3] = [78, 84, 66];
@@ -33,10 +35,10 @@ pub enum Opened {
     Refused(Refusal),
 }
 
-// Opens a bundle: reads its rows into the start of a table that has room for as many as there may be. Refuses
-// with 30 to 32, and with 1 for more rows or pool bytes than there may be.
+// Opens a bundle: reads its rows into the start of a table that has room for them. Refuses with 30 to 32, and
+// with 1 for more rows or pool bytes than there may be.
 pub fn read_rows(bundle: &[u8], table: &mut [u32]) -> Opened
-    requires { ⌜ length (now table) ≡ WIDTH * MOST-ROWS ⌝ }
+    requires { ⌜ HasRoom (now bundle) (now table) ⌝ }
     ensures { λ r. ⌜ ((n : ℕ) → r ≡ Opened.Rows n → Opens (now (bundle .entry)) (now (table .exit)) n) ⌝ }
     ensures { λ r. ⌜ ((x : Refusal) → r ≡ Opened.Refused x → openingRefusal (now (bundle .entry)) ≡ some x) ⌝ }
 {
@@ -50,10 +52,30 @@ pub fn read_rows(bundle: &[u8], table: &mut [u32]) -> Opened
     }
 }
 
+// The row count that a bundle names, 0 where its bytes end before the rows.
+pub fn rows_named(bundle: &[u8]) -> usize
+    ensures { λ r. ⌜ (HEADER ≤ length (now (bundle .entry)) → r ≡ bundleRows (now (bundle .entry))) ⌝ }
+{
+    if bundle.len() < HEADER {
+        return 0;
+    }
+    row_count(bundle)
+}
+
+// The pool length that a bundle names, 0 where its bytes end before the rows.
+pub fn bytes_named(bundle: &[u8]) -> usize
+    ensures { λ r. ⌜ (HEADER ≤ length (now (bundle .entry)) → r ≡ bundlePoolLength (now (bundle .entry))) ⌝ }
+{
+    if bundle.len() < HEADER {
+        return 0;
+    }
+    pool_length(bundle)
+}
+
 // The pool of a bundle of so many rows.
 pub fn pool(bundle: &[u8], rows: usize) -> &[u8]
-    requires { ⌜ HEADER + ROW-BYTES * rows ≤ length (now bundle) ⌝ }
-    ensures { λ r. ⌜ now r ≡ drop (HEADER + ROW-BYTES * rows) (now (bundle .entry)) ⌝ }
+    requires { ⌜ poolStart rows ≤ length (now bundle) ⌝ }
+    ensures { λ r. ⌜ now r ≡ drop (poolStart rows) (now (bundle .entry)) ⌝ }
 {
     &bundle[HEADER + ROW_BYTES * rows..]
 }

@@ -12,6 +12,22 @@ use rules::Row;
 // The part of a line that is the first row to ask.
 const FIRST_ROW: usize = 5;
 
+// The rows to ask, if there are any, have numbers that can be read.
+pub fn has_rows(line: &[u8]) -> bool {
+    let mut number: usize = FIRST_ROW;
+    while number < line.len() {
+        let name = part(line, number);
+        if name.len() == 0 {
+            return true;
+        }
+        if !words::are_numbers(piece(name, 0, b' ')) {
+            return false;
+        }
+        number += 1;
+    }
+    true
+}
+
 // The five lookups from each row.
 pub fn case(line: &[u8], table: &[u32], pool: &[u8]) {
     let mut number: usize = FIRST_ROW;

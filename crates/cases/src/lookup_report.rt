@@ -28,7 +28,7 @@ pub fn compared(pool: &[u8], given: Found, uri: &[u8]) {
         return;
     }
     let place = given.place;
-    let is = names::is_part(pool, place.offset, place.length, uri);
+    let is = names::same(pool::part(pool, place.offset, place.length), uri);
     texts::either(is, texts::YES, texts::NO);
 }
 

@@ -37,6 +37,17 @@ pub fn pool<'a>(written: &'a [u8], plenty: &'a [u8]) -> &'a [u8] {
     between(plenty, 0, words::number(written) as usize)
 }
 
+// The number of bytes of such a pool, if it has one, can be read.
+pub fn has_size(written: &[u8]) -> bool {
+    if written.len() == 0 {
+        return true;
+    }
+    if written[0] != b'*' {
+        return true;
+    }
+    words::are_numbers(written)
+}
+
 // A pool whose bytes are written in hexadecimal: `#` comes first.
 pub fn is_hexadecimal(written: &[u8]) -> bool {
     if written.len() == 0 {

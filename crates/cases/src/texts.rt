@@ -69,21 +69,20 @@ pub const CHANGED_ROW: usize = 29;
 
 pub const WORDS: usize = 30;
 
+// Of lines that are not run.
+pub const NO_OPERATION: usize = 31;
+
+pub const TOO_LARGE: usize = 32;
+
 // A text.
 pub fn write(text: usize) {
     io::write_all(
         1,
         part(
-            b": refusal |, row |, word |\n|: URI |, prefix |, default |, in scope: URI |refusal | row | word | |nothing|none|built-in xml|built-in xmlns|yes|no|: URI <|>, prefix <|>\n|, | rows, | bytes|, pool kept, appended <|, pool not kept, appended <|>|, the rest zero\n|, the rest NOT zero\n|  row |:",
+            b": refusal |, row |, word |\n|: URI |, prefix |, default |, in scope: URI |refusal | row | word | |nothing|none|built-in xml|built-in xmlns|yes|no|: URI <|>, prefix <|>\n|, | rows, | bytes|, pool kept, appended <|, pool not kept, appended <|>|, the rest zero\n|, the rest NOT zero\n|  row |:|: not run, no such operation\n|: not run, a number is too large\n",
             text,
         ),
     );
-}
-
-// Bytes, as a line.
-pub fn line(bytes: &[u8]) {
-    io::write_all(1, bytes);
-    write(LINE);
 }
 
 // A text, and a number after it.

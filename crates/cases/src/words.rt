@@ -1,6 +1,6 @@
 // A table written out: its words with a space between two of them, `-` for NONE. In a word, bytes that are no digits are
 // passed over, so a comma may end a row. `*` and a number stand for as many more rows as make it that many: each word
-// grows from row to row as it did between the two rows before.
+// grows from row to row as it did between the two rows before. A number in digits is at most 4294967289.
 ghost use Prim.Native.Nat.{_≤_};
 ghost use lib.ListN.{length};
 use bytes::scan::find;
@@ -63,6 +63,36 @@ fn go_on(out: &mut [u32], count: usize, rows: u32) -> usize
 // The word after two others: it differs from the last as that does from the one before.
 fn next(last: u32, before: u32) -> u32 {
     std::num::wrapping_add_u32(last, std::num::wrapping_sub_u32(last, before))
+}
+
+// No word of the text has a digit too many to be a number.
+pub fn are_numbers(text: &[u8]) -> bool {
+    let mut from: usize = 0;
+    while from < text.len() {
+        let to = find(text, from, text.len(), b' ');
+        if is_too_large(&text[from..to]) {
+            return false;
+        }
+        from = to + 1;
+    }
+    true
+}
+
+fn is_too_large(word: &[u8]) -> bool {
+    let mut number: u32 = 0;
+    let mut i: usize = 0;
+    while i < word.len() {
+        if (number >= rules::NONE / 10) & is_digit(word[i]) {
+            return true;
+        }
+        number = with_digit(number, word[i]);
+        i += 1;
+    }
+    false
+}
+
+fn is_digit(b: u8) -> bool {
+    std::num::wrapping_sub_u8(b, b'0') < 10
 }
 
 // The number that the digits of a text make; `-` makes NONE, and so does a digit too many.

@@ -37,6 +37,10 @@ module _ (bytes : List ℕ) (at : ℕ) where
       let d = next-byte bytes (at + 3) 0 (omega arith) in
       omega arith
 
+  -- The number of four bytes that were read.
+  pub word-made : at + 4 ≤ length bytes → {a b c d : ℕ} → a ≡ getD bytes at 0 → b ≡ getD bytes (at + 1) 0 → c ≡ getD bytes (at + 2) 0 → d ≡ getD bytes (at + 3) 0 → a + 256 * b + 65536 * c + 16777216 * d ≡ numberAt bytes at 4
+  word-made h first second third fourth = rw (first, second, third, fourth) (sym (word-read h))
+
 -- Word i of the words that bytes stand for.
 pub word-among : (count : ℕ) (bytes : List ℕ) (i : ℕ) → i < count → getD (wordsFrom count bytes) i 0 ≡ numberAt bytes (4 * i) 4
 unfolding wordsFrom

@@ -2,7 +2,7 @@
 // answer.
 ghost use mathlib.Core.Path.{_≡_};
 ghost use lib.ListN.{length};
-ghost use Rattle.answers.specs.Given.{checkGiven, locatedGiven, boundGiven, readGiven, writtenGiven};
+ghost use Rattle.answers.specs.Given.{checkGiven, locatedGiven, boundGiven, filledGiven, writtenGiven};
 ghost use Rattle.bundles.specs.Operations.{bundleRead, tableWritten, bundleChecked, bundleUriOfPrefix, bundlePrefixOfUri, bundleDefaultUri, bundleInScopeUri, bundleInScopePrefix, bundleNormalized};
 ghost use Rattle.markup.specs.Writing.{bundleText};
 use answers::Found;
@@ -16,7 +16,7 @@ use rules::Row;
 pub extern "C" fn noemathu_check(bundle: &[u8]) -> Number
     ensures { λ r. ⌜ r ≡ checkGiven (bundleChecked (now (bundle .entry))) ⌝ }
 {
-    answers::check_number(sessions::check(bundle))
+    answers::check_number(bundle_check::check(bundle))
 }
 
 // The URI of a prefix at a row; the empty prefix is the default.
@@ -24,7 +24,7 @@ pub extern "C" fn noemathu_check(bundle: &[u8]) -> Number
 pub extern "C" fn noemathu_uri_of_prefix(bundle: &[u8], row: u32, prefix: &[u8]) -> Found
     ensures { λ r. ⌜ r ≡ boundGiven (bundleUriOfPrefix (now (bundle .entry)) row (now (prefix .entry))) ⌝ }
 {
-    answers::bound(sessions::uri_of_prefix(bundle, Row(row), prefix))
+    answers::bound(bundle_lookups::uri_of_prefix(bundle, Row(row), prefix))
 }
 
 // A prefix of a URI at a row.
@@ -32,7 +32,7 @@ pub extern "C" fn noemathu_uri_of_prefix(bundle: &[u8], row: u32, prefix: &[u8])
 pub extern "C" fn noemathu_prefix_of_uri(bundle: &[u8], row: u32, uri: &[u8]) -> Found
     ensures { λ r. ⌜ r ≡ locatedGiven (bundlePrefixOfUri (now (bundle .entry)) row (now (uri .entry))) ⌝ }
 {
-    answers::located(sessions::prefix_of_uri(bundle, Row(row), uri))
+    answers::located(bundle_lookups::prefix_of_uri(bundle, Row(row), uri))
 }
 
 // The default URI at a row. Whoever asks whether a URI is the default compares; nothing equals the empty URI.
@@ -40,7 +40,7 @@ pub extern "C" fn noemathu_prefix_of_uri(bundle: &[u8], row: u32, uri: &[u8]) ->
 pub extern "C" fn noemathu_default_uri(bundle: &[u8], row: u32) -> Found
     ensures { λ r. ⌜ r ≡ locatedGiven (bundleDefaultUri (now (bundle .entry)) row) ⌝ }
 {
-    answers::located(sessions::default_uri(bundle, Row(row)))
+    answers::located(bundle_lookups::default_uri(bundle, Row(row)))
 }
 
 // The in-scope URI of a prefix at a row: by declarations alone.
@@ -48,7 +48,7 @@ pub extern "C" fn noemathu_default_uri(bundle: &[u8], row: u32) -> Found
 pub extern "C" fn noemathu_in_scope_uri(bundle: &[u8], row: u32, prefix: &[u8]) -> Found
     ensures { λ r. ⌜ r ≡ boundGiven (bundleInScopeUri (now (bundle .entry)) row (now (prefix .entry))) ⌝ }
 {
-    answers::bound(sessions::in_scope_uri(bundle, Row(row), prefix))
+    answers::bound(bundle_lookups::in_scope_uri(bundle, Row(row), prefix))
 }
 
 // An in-scope prefix of a URI at a row: by declarations alone.
@@ -56,7 +56,7 @@ pub extern "C" fn noemathu_in_scope_uri(bundle: &[u8], row: u32, prefix: &[u8]) 
 pub extern "C" fn noemathu_in_scope_prefix(bundle: &[u8], row: u32, uri: &[u8]) -> Found
     ensures { λ r. ⌜ r ≡ boundGiven (bundleInScopePrefix (now (bundle .entry)) row (now (uri .entry))) ⌝ }
 {
-    answers::bound(sessions::in_scope_prefix(bundle, Row(row), uri))
+    answers::bound(bundle_lookups::in_scope_prefix(bundle, Row(row), uri))
 }
 
 // Normalizes a bundle into a bundle: so that every element and every owned attribute means its URI in scope, whatever the
@@ -66,7 +66,7 @@ pub extern "C" fn noemathu_normalize(bundle: &[u8], out: &mut [u8]) -> Used
     ensures { λ r. ⌜ r ≡ writtenGiven (bundleNormalized (now (bundle .entry)) (length (now (out .entry))) .answer) ⌝ }
     ensures { λ _. ⌜ now (out .exit) ≡ bundleNormalized (now (bundle .entry)) (length (now (out .entry))) .bytes ⌝ }
 {
-    answers::written(sessions::normalize(bundle, out))
+    answers::written(bundle_normalization::normalize(bundle, out))
 }
 
 // Writes the XML text of an element, or of a document's element, and of all that it holds. Success answers the bytes that it
@@ -76,18 +76,18 @@ pub extern "C" fn noemathu_write_xml(bundle: &[u8], row: u32, out: &mut [u8]) ->
     ensures { λ r. ⌜ r ≡ writtenGiven (bundleText (now (bundle .entry)) row (length (now (out .entry))) .answer) ⌝ }
     ensures { λ _. ⌜ now (out .exit) ≡ bundleText (now (bundle .entry)) row (length (now (out .entry))) .bytes ⌝ }
 {
-    answers::written(sessions::write_xml(bundle, Row(row), out))
+    answers::written(bundle_text::write_xml(bundle, Row(row), out))
 }
 
 // Reads a bundle into a table and a pool. Success answers the rows and bytes that it takes; the rest of both outputs is zero,
 // and all of them after a refusal.
 #[no_mangle]
 pub extern "C" fn noemathu_read(bundle: &[u8], out_table: &mut [u32], out_pool: &mut [u8]) -> Sizes
-    ensures { λ r. ⌜ r ≡ readGiven (bundleRead (now (bundle .entry)) (length (now («out_table» .entry))) (length (now («out_pool» .entry))) .answer) ⌝ }
+    ensures { λ r. ⌜ r ≡ filledGiven (bundleRead (now (bundle .entry)) (length (now («out_table» .entry))) (length (now («out_pool» .entry))) .answer) ⌝ }
     ensures { λ _. ⌜ now («out_table» .exit) ≡ bundleRead (now (bundle .entry)) (length (now («out_table» .entry))) (length (now («out_pool» .entry))) .table ⌝ }
     ensures { λ _. ⌜ now («out_pool» .exit) ≡ bundleRead (now (bundle .entry)) (length (now («out_table» .entry))) (length (now («out_pool» .entry))) .pool ⌝ }
 {
-    answers::read(sessions::read(bundle, out_table, out_pool))
+    answers::filled(bundle_reading::read(bundle, out_table, out_pool))
 }
 
 // Writes a table and its pool as a bundle. Success answers the bytes that it takes; the rest of the output is zero, and all of

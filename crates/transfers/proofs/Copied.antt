@@ -1,25 +1,26 @@
 -- What a read is refused for, and what it leaves.
 -- Assumes nothing.
-use Prim.Native.Nat.{ℕ, _-_, _*_, _/_, _≤_, _<_}
+use Prim.Native.Nat.{ℕ, _*_, _/_, _≤_, _<_}
 use mathlib.Core.Path.{_≡_, refl, sym, ap, _∙_}
 use mathlib.Core.List.{List, [], _∷_, _++_}
 use mathlib.Core.Option.{none}
 use native.Mathlib.Omega.{arith}
-use lib.ListN.{length, take, drop, replicate, length-append, length-drop}
+use lib.ListN.{length, take, drop, length-append, length-drop}
 use lib.Seq.{take-append-seam}
 use lib.Dec.{ltb}
 use borrow.Author.Tests.{ltb-false, lt-ltb, le-ltb}
 use Rattle.rules.specs.Table.{WIDTH, rowCount}
 use Rattle.rules.specs.Refusals.{refusedIf, verdict, checkRefusal, checked}
-use Rattle.rules.specs.Normalization.{padded}
+use Rattle.rules.specs.Outputs.{padded, Outcome, refusal}
 use Rattle.rules.specs.declared.Refusal.{Refusal}
 use Rattle.rules.specs.declared.Checked.{Checked}
-use Rattle.rules.specs.declared.Read.{Read}
+use Rattle.rules.specs.declared.Filled.{Filled}
 use Rattle.rules.proofs.Refusals.{not-refused, all-none, verdict-accepted, verdict-refused}
 use Rattle.rules.proofs.Accepted.{unrefused}
 use Rattle.buffers.specs.Writes.{cleared}
 use Rattle.buffers.proofs.Meaning.{padded-part}
-use Rattle.bundles.specs.Operations.{ReadOutcome, tableReadRefusal, readRefused, readDone, tableRead}
+use Rattle.outputs.proofs.Ended.{Answers}
+use Rattle.bundles.specs.Operations.{tableReadRefusal, tableRead}
 
 module _ (table pool : List ℕ) (tableSize poolSize : ℕ) where
   pub drawn-first : {drawn : Checked} → drawn ≡ checked table pool → (x : Refusal) → drawn ≡ Checked.Refused x → drawn ≡ verdict (tableReadRefusal table pool tableSize poolSize)
@@ -69,35 +70,24 @@ copied out l n is room o₁ o₂ copy clear =
     let front : take n o₁ ≡ l = ap (take n) copy ∙ ap (λ (k : ℕ). take k (l ++ drop (length l) out)) is ∙ take-append-seam l (drop (length l) out) in
     clear ∙ padded-part o₁ n (omega arith) ∙ ap (λ (k : ℕ). padded k (take n o₁)) long ∙ ap (padded (length out)) front
 
--- What a call answers and leaves is an outcome.
-abbrev pub Leaves : ReadOutcome → Read → List ℕ → List ℕ → Type 0
-Leaves outcome answer table pool = (answer ≡ outcome .answer) × ((table ≡ outcome .table) × (pool ≡ outcome .pool))
-
-pub refused-read : (outTable outPool : List ℕ) (x : Refusal) {t p : List ℕ} → t ≡ cleared outTable 0 → p ≡ cleared outPool 0 → Leaves (readRefused (length outTable) (length outPool) x) (Read.Refused x) t p
-unfolding readRefused
-refused-read outTable outPool x t p =
-    let words : length outTable - 0 ≡ length outTable = omega arith in
-    let bytes : length outPool - 0 ≡ length outPool = omega arith in
-    (refl, (t ∙ ap (λ (n : ℕ). replicate n 0) words, p ∙ ap (λ (n : ℕ). replicate n 0) bytes))
-
 module _ (table pool outTable outPool : List ℕ) where
-  abbrev outcome : ReadOutcome
+  abbrev outcome : Outcome
   outcome = tableRead table pool (length outTable) (length outPool)
 
   pub read-refused :
       (x : Refusal) → verdict (tableReadRefusal table pool (length outTable) (length outPool)) ≡ Checked.Refused x
-      → {answer : Read} {t p : List ℕ} → Leaves (readRefused (length outTable) (length outPool) x) answer t p → Leaves outcome answer t p
+      → {answer : Filled} {t p : List ℕ} → Answers (refusal (length outTable) (length outPool) x) answer t p → Answers outcome answer t p
   unfolding tableRead
   read-refused x e given = rw (verdict-refused (tableReadRefusal table pool (length outTable) (length outPool)) x e) given
 
   pub read-done :
       (has : Fits table pool (length outTable) (length outPool)) (rows : ℕ) → rows ≡ rowCount table → {t₁ t₂ p₁ p₂ : List ℕ}
       → t₁ ≡ table ++ drop (length table) outTable → t₂ ≡ cleared t₁ (WIDTH * rows) → p₁ ≡ pool ++ drop (length pool) outPool → p₂ ≡ cleared p₁ (length pool)
-      → Leaves outcome (Read.Done rows (length pool)) t₂ p₂
-  unfolding tableRead readDone
+      → Answers outcome (Filled.Done rows (length pool)) t₂ p₂
+  unfolding tableRead
   read-done has rows is t₁ t₂ p₁ p₂ =
       let whole = has .whole in
       rw (has .unrefused) (
-        ap (λ (n : ℕ). Read.Done n (length pool)) is,
+        ap (λ (n : ℕ). Filled.Done n (length pool)) is,
         (copied outTable table (WIDTH * rows) (omega arith) (has .words) _ _ t₁ t₂, copied outPool pool (length pool) refl (has .bytes) _ _ p₁ p₂),
       )

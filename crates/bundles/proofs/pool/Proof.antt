@@ -1,11 +1,11 @@
 -- `bundles::pool` meets its contract.
 -- Assumes nothing.
-use Prim.Native.Nat.{_+_, _-_, _*_}
+use Prim.Native.Nat.{_-_}
 use native.Mathlib.Omega.{arith}
 use denote.Ref.{now}
 use lib.ListN.{length, drop, length-drop}
 use lib.Seq.{take-all}
-use Rattle.bundles.specs.Bundles.{HEADER, ROW-BYTES}
+use Rattle.bundles.specs.Bundles.{poolStart}
 use borrow.Author.Needs.{needs}
 use Rattle.bundles.proofs.pool.Statement.{statement}
 use Rattle.bundles.proofs.pool.Tie as tie
@@ -29,8 +29,8 @@ returns : tie.Need-returns
 returns c =
     let s = c .before in
     let bundle = now (s .args .bundle) in
-    let long = length-drop (HEADER + ROW-BYTES * s .args .rows) bundle in
-    take-all (length bundle - (HEADER + ROW-BYTES * s .args .rows)) (drop (HEADER + ROW-BYTES * s .args .rows) bundle) (omega arith)
+    let long = length-drop (poolStart (s .args .rows)) bundle in
+    take-all (length bundle - (poolStart (s .args .rows))) (drop (poolStart (s .args .rows)) bundle) (omega arith)
 
 pub pool-spec : {M : Type 1} → statement M
 pool-spec =

@@ -52,6 +52,7 @@ read-words-requires c κs =
     let few = can ok .few in
     let rows = c .before .before .row-count .ensures .0 in
     let long = ap length (behind-header (bytes ok)) ∙ length-drop HEADER (bytes ok) in
+    let room = ok .before .before .before .before .before .pre (can ok .known .header) few in
     (omega arith, omega arith)
 
 enum-known-x : tie.Need-enum-known-x

@@ -1,8 +1,7 @@
 -- `little_endian::word` meets its contract.
 -- Assumes nothing.
-use native.Mathlib.Omega.{arith}
 use denote.Ref.{now}
-use Rattle.little_endian.proofs.Reading.{word-read}
+use Rattle.little_endian.proofs.Reading.{word-made}
 use borrow.Author.Needs.{needs}
 use Rattle.little_endian.proofs.word.Statement.{statement}
 use Rattle.little_endian.proofs.word.Tie as tie
@@ -61,8 +60,7 @@ add-result-3 c = search needs
 returns : tie.Need-returns
 returns c =
     let s = c .before .before .before .before .before .before .before .before .before in
-    let read = word-read (now (s .args .bytes)) (s .args .at) (s .pre) in
-    omega arith
+    word-made (now (s .args .bytes)) (s .args .at) (s .pre) (c .before .before .before .before .before .before .wide .ensures .0) (c .before .before .before .before .wide2 .ensures .0) (c .before .before .wide3 .ensures .0) (c .wide4 .ensures .0)
 
 pub word-spec : {M : Type 1} → statement M
 word-spec =

@@ -6,9 +6,6 @@ use borrow.Author.Needs.{needs}
 use Rattle.transfers.proofs.judge_read.Statement.{statement}
 use Rattle.transfers.proofs.judge_read.Tie as tie
 
-check-requires : tie.Need-check-requires
-check-requires c κs = search needs
-
 enum-told : tie.Need-enum-told
 enum-told c = search needs
 
@@ -16,7 +13,7 @@ enum-told-2 : tie.Need-enum-told-2
 enum-told-2 c = search needs
 
 returns : tie.Need-returns
-returns c = drawn-first _ _ _ _ (c .before .before .check .ensures) _ (c .enum-told2 .given .1)
+returns c = drawn-first _ _ _ _ (c .before .before .before .before .pre) _ (c .enum-told2 .given .1)
 
 row-count-requires : tie.Need-row-count-requires
 row-count-requires c κs = search needs
@@ -24,25 +21,24 @@ row-count-requires c κs = search needs
 returns-2 : tie.Need-returns-2
 returns-2 c =
     let ok = c .before .before in
-    no-row-room _ _ _ _ (sym (ok .enum-told .given .1) ∙ ok .before .before .check .ensures) (rw (sym (c .before .row-count .ensures)) (c .if1 .taken))
+    no-row-room _ _ _ _ (sym (ok .enum-told .given .1) ∙ ok .before .before .before .before .pre) (rw (sym (c .before .row-count .ensures)) (c .if1 .taken))
 
 returns-3 : tie.Need-returns-3
 returns-3 c =
     let rows = c .before in
     let ok = rows .before .before in
-    no-byte-room _ _ _ _ (sym (ok .enum-told .given .1) ∙ ok .before .before .check .ensures) (rw (sym (rows .before .row-count .ensures)) (rows .if1 .left)) (c .if2 .taken)
+    no-byte-room _ _ _ _ (sym (ok .enum-told .given .1) ∙ ok .before .before .before .before .pre) (rw (sym (rows .before .row-count .ensures)) (rows .if1 .left)) (c .if2 .taken)
 
 returns-4 : tie.Need-returns-4
 returns-4 c =
     let rows = c .before in
     let ok = rows .before .before in
-    read-room _ _ _ _ (sym (ok .enum-told .given .1) ∙ ok .before .before .check .ensures) (rw (sym (rows .before .row-count .ensures)) (rows .if1 .left)) (c .if2 .left)
+    read-room _ _ _ _ (sym (ok .enum-told .given .1) ∙ ok .before .before .before .before .pre) (rw (sym (rows .before .row-count .ensures)) (rows .if1 .left)) (c .if2 .left)
 
 pub judge-read-spec : {M : Type 1} → statement M
 judge-read-spec =
     tie.close
     (tie.spec
-    check-requires
     enum-told
     enum-told-2
     returns

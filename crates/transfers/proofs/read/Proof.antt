@@ -44,8 +44,8 @@ clear-bytes-requires c κs = rw (c .before .before .before .copy-bytes .kept .1 
 enum-known-x : tie.Need-enum-known-x
 enum-known-x c = search needs
 
-refuse-read-requires : tie.Need-refuse-read-requires
-refuse-read-requires c κs = search needs
+refuse-requires : tie.Need-refuse-requires
+refuse-requires c κs = search needs
 
 same-length : tie.Need-same-length
 same-length c = search needs
@@ -67,7 +67,7 @@ same-length-4 c = search needs
 returns-2 : tie.Need-returns-2
 returns-2 c =
     let s = c .before .before .before .before .before .before .before .before .before .before .before .before .before .before .before in
-    read-refused (now (s .args .table)) (now (s .args .pool)) (now (s .args .out-table)) (now (s .args .out-pool)) _ (sym (c .before .before .before .before .before .before .before .before .before .before .judge-read .ensures) ∙ c .before .before .before .before .before .before .before .before .x .given .1) (c .before .before .before .before .refuse-read .ensures)
+    read-refused (now (s .args .table)) (now (s .args .pool)) (now (s .args .out-table)) (now (s .args .out-pool)) _ (sym (c .before .before .before .before .before .before .before .before .before .before .judge-read .ensures) ∙ c .before .before .before .before .before .before .before .before .x .given .1) (c .before .before .before .before .refuse .ensures)
 
 pub read-spec : {M : Type 1} → statement M
 read-spec =
@@ -81,7 +81,7 @@ read-spec =
     copy-bytes-requires
     clear-bytes-requires
     enum-known-x
-    refuse-read-requires
+    refuse-requires
     same-length
     same-length-2
     returns

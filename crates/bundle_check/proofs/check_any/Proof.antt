@@ -1,0 +1,41 @@
+-- `bundle_check::check_any` meets its contract.
+-- Assumes nothing.
+use mathlib.Core.Path.{sym, _∙_}
+use native.Mathlib.Omega.{arith}
+use denote.Ref.{now}
+use lib.Seq.{length-take-le}
+use Rattle.rules.specs.Table.{MOST-ROWS}
+use Rattle.bundles.specs.Opening.{Opens}
+use Rattle.bundles.proofs.Opening.{new-room}
+use Rattle.bundles.proofs.Over.{check-not-open, check-open}
+use borrow.Author.Needs.{needs}
+use Rattle.bundle_check.proofs.check_any.Statement.{statement}
+use Rattle.bundle_check.proofs.check_any.Tie as tie
+
+-- The bundle is open.
+opened : (c : tie.After-known-told) → Opens (now (c .before .before .before .before .before .before .before .args .bundle)) (c .before .before .before .before .read-rows .last .1 .0) (c .before .n .given .0 .0)
+opened c = c .before .before .before .before .read-rows .ensures .0 _ (c .before .n .given .1)
+
+pub check-any-spec : {M : Type 1} → statement M
+check-any-spec =
+    tie.close
+    (tie.spec
+    (λ c. search needs)
+    (λ c κs. new-room (c .before .before .args .bundle .now) MOST-ROWS 1 (λ header few. few))
+    (λ c. search needs)
+    (λ c.
+    let few = opened c .few in
+    omega arith)
+    (λ c.
+    let room = opened c .room in
+    omega arith)
+    (λ c.
+    let room = opened (c .before) .room in
+    sym (length-take-le _ _ (omega arith)))
+    (λ c κs.
+    let inside = opened (c .before) .inside in
+    omega arith)
+    (λ c κs. search needs)
+    (λ c. search needs)
+    (λ c. c .check .ensures ∙ check-open _ _ _ (opened (c .before .before .before)) _ (c .before .pool .ensures))
+    (λ c. sym (check-not-open _ _ (c .before .before .before .before .read-rows .ensures .1 _ (c .before .x .given .1)))))

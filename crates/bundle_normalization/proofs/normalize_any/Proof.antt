@@ -1,0 +1,71 @@
+-- `bundle_normalization::normalize_any` meets its contract.
+-- Assumes nothing.
+use Prim.Native.Nat.{_≤_}
+use mathlib.Core.Path.{sym, ap, _∙_}
+use native.Mathlib.Omega.{arith}
+use denote.Ref.{now}
+use lib.ListN.{length, take}
+use Rattle.rules.specs.Table.{MOST-ROWS, MOST-BYTES}
+use Rattle.buffers.proofs.Meaning.{copied}
+use Rattle.normal_form.specs.Lent.{WORK}
+use Rattle.bundles.specs.Operations.{WriteOutcome}
+use Rattle.bundles.specs.Opening.{Opens}
+use Rattle.bundles.proofs.Opening.{new-room}
+use Rattle.bundles.proofs.Over.{pool-short, normalize-not-open, normalize-open}
+use Rattle.bundle_normalization.proofs.Room.{room-for, fits-work}
+use borrow.Author.Needs.{needs}
+use Rattle.bundle_normalization.proofs.normalize_any.Statement.{statement}
+use Rattle.bundle_normalization.proofs.normalize_any.Tie as tie
+
+-- The bundle is open.
+opened : (c : tie.After-known-told) → Opens (now (c .before .before .before .before .before .before .before .before .args .bundle)) (c .before .before .before .before .read-rows .last .1 .0) (c .before .n .given .0 .0)
+opened c = c .before .before .before .before .read-rows .ensures .0 _ (c .before .n .given .1)
+
+-- Its pool is no longer than a pool may be.
+short : (c : tie.After-pool) → length (now (c .pool .result)) ≤ MOST-BYTES
+short c = pool-short _ _ _ (opened (c .before)) _ (c .pool .ensures)
+
+normalize-requires : tie.Need-normalize-requires
+normalize-requires c κs =
+    let p = c .before .before .before .before .before .before in
+    let k = p .before in
+    let words = k .before .before .before .before .read-rows .kept .1 .0 in
+    let few = opened k .few in
+    let fits = short p in
+    room-for _ _ _ _ MOST-ROWS MOST-BYTES (omega arith) (c .before .before .before .before .copy-bytes .kept .1 .0) (omega arith) (omega arith) (omega arith) (omega arith)
+
+returns : tie.Need-returns
+returns c =
+    let p = c .before .before .before .before .before .before .before .before .before .before .before in
+    let names = ap (take (length (now (p .pool .result)))) (c .before .before .before .before .before .before .before .before .before .copy-bytes .ensures) ∙ copied _ _ ∙ p .pool .ensures in
+    let is = normalize-open _ _ _ (opened (p .before)) _ names _ in
+    let done = c .before .before .before .before .normalize .ensures in
+    (done .0 ∙ ap (λ (o : WriteOutcome). o .answer) is, done .1 ∙ ap (λ (o : WriteOutcome). o .bytes) is)
+
+returns-2 : tie.Need-returns-2
+returns-2 c =
+    let refused = c .before .before .refuse .ensures in
+    let is = sym (normalize-not-open _ _ (c .before .before .before .before .before .before .before .before .read-rows .ensures .1 _ (c .before .before .before .before .before .x .given .1)) _) in
+    (refused .0 ∙ ap (λ (o : WriteOutcome). o .answer) is, refused .1 ∙ ap (λ (o : WriteOutcome). o .bytes) is)
+
+pub normalize-any-spec : {M : Type 1} → statement M
+normalize-any-spec =
+    tie.close
+    (tie.spec
+    (λ c. search needs)
+    (λ c κs. new-room (c .before .before .before .args .bundle .now) MOST-ROWS 1 (λ header few. few))
+    (λ c. search needs)
+    (λ c κs. opened c .inside)
+    (λ c. search needs)
+    (λ c κs.
+    let fits = short (c .before) in
+    fits-work (now (c .before .pool .result)) WORK (omega arith))
+    (λ c. search needs)
+    (λ c. search needs)
+    normalize-requires
+    (λ c. search needs)
+    (λ c κs. search needs)
+    (λ c. search needs)
+    returns
+    (λ c. search needs)
+    returns-2)

@@ -1,0 +1,72 @@
+-- `bundle_normalization::normalize_few` meets its contract.
+-- Assumes nothing.
+use Prim.Native.Nat.{_*_, _≤_}
+use mathlib.Core.Path.{sym, ap, _∙_}
+use native.Mathlib.Omega.{arith}
+use denote.Ref.{now}
+use lib.ListN.{length, take}
+use Rattle.checker.specs.Lent.{FEW-ROWS}
+use Rattle.buffers.proofs.Meaning.{copied}
+use Rattle.bundles.specs.Operations.{WriteOutcome}
+use Rattle.bundles.specs.Opening.{Opens}
+use Rattle.bundles.proofs.Opening.{new-room}
+use Rattle.bundles.proofs.Over.{normalize-not-open, normalize-open}
+use Rattle.bundle_normalization.specs.Small.{SHORT-POOL, FEW-WORK}
+use Rattle.bundle_normalization.proofs.Room.{room-for, fits-work, rows-few, pool-few}
+use borrow.Author.Needs.{needs}
+use Rattle.bundle_normalization.proofs.normalize_few.Statement.{statement}
+use Rattle.bundle_normalization.proofs.normalize_few.Tie as tie
+
+-- The bundle is open.
+opened : (c : tie.After-known-told) → Opens (now (c .before .before .before .before .before .before .before .before .args .bundle)) (c .before .before .before .before .read-rows .last .1 .0) (c .before .n .given .0 .0)
+opened c = c .before .before .before .before .read-rows .ensures .0 _ (c .before .n .given .1)
+
+-- Its pool is short.
+short : (c : tie.After-pool) → length (now (c .pool .result)) ≤ SHORT-POOL
+short c = pool-few _ _ _ (opened (c .before)) (c .before .before .before .before .before .before .before .before .before .pre) _ (c .pool .ensures)
+
+normalize-few-requires : tie.Need-normalize-few-requires
+normalize-few-requires c κs =
+    let p = c .before .before .before .before .before .before in
+    let k = p .before in
+    let words = k .before .before .before .before .read-rows .kept .1 .0 in
+    let few = opened k .few in
+    let within = rows-few _ _ _ (opened k) (k .before .before .before .before .before .before .before .before .pre) in
+    let fits = short p in
+    (room-for _ _ _ _ FEW-ROWS SHORT-POOL (omega arith) (c .before .before .before .before .copy-bytes .kept .1 .0) (omega arith) (omega arith) (omega arith) (omega arith), omega arith)
+
+returns : tie.Need-returns
+returns c =
+    let p = c .before .before .before .before .before .before .before .before .before .before .before in
+    let names = ap (take (length (now (p .pool .result)))) (c .before .before .before .before .before .before .before .before .before .copy-bytes .ensures) ∙ copied _ _ ∙ p .pool .ensures in
+    let is = normalize-open _ _ _ (opened (p .before)) _ names _ in
+    let done = c .before .before .before .before .normalize-few .ensures in
+    (done .0 ∙ ap (λ (o : WriteOutcome). o .answer) is, done .1 ∙ ap (λ (o : WriteOutcome). o .bytes) is)
+
+returns-2 : tie.Need-returns-2
+returns-2 c =
+    let refused = c .before .before .refuse .ensures in
+    let is = sym (normalize-not-open _ _ (c .before .before .before .before .before .before .before .before .read-rows .ensures .1 _ (c .before .before .before .before .before .x .given .1)) _) in
+    (refused .0 ∙ ap (λ (o : WriteOutcome). o .answer) is, refused .1 ∙ ap (λ (o : WriteOutcome). o .bytes) is)
+
+pub normalize-few-spec : {M : Type 1} → statement M
+normalize-few-spec =
+    tie.close
+    (tie.spec
+    (λ c. search needs)
+    (λ c κs. new-room (c .before .before .before .args .bundle .now) (2 * FEW-ROWS) 0 (λ header few. let small = c .before .before .before .pre .few header in omega arith))
+    (λ c. search needs)
+    (λ c κs. opened c .inside)
+    (λ c. search needs)
+    (λ c κs.
+    let fits = short (c .before) in
+    fits-work (now (c .before .pool .result)) FEW-WORK (omega arith))
+    (λ c. search needs)
+    (λ c. search needs)
+    normalize-few-requires
+    (λ c. search needs)
+    (λ c κs. search needs)
+    (λ c. search needs)
+    returns
+    (λ c. search needs)
+    returns-2)

@@ -1,0 +1,2 @@
+-- Small: small bundles.
+pub mod Small

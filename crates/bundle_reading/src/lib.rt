@@ -1,0 +1,76 @@
+// The table and the pool of a session bundle, as copies.
+ghost use mathlib.Core.Path.{_≡_};
+ghost use lib.ListN.{length};
+ghost use Rattle.checker.specs.Lent.{FEW-ROWS};
+ghost use Rattle.bundles.specs.Operations.{bundleRead};
+ghost use Rattle.bundles.specs.Opening.{NamesAtMost};
+use bundles::Opened;
+use rules::Filled;
+
+// The words of the largest table, and of a small one.
+const WORDS: usize = rules::WIDTH * rules::MOST_ROWS;
+
+const FEW_WORDS: usize = rules::WIDTH * checker::FEW_ROWS;
+
+// Reads a bundle into a table and a pool. Success answers the rows and bytes that it takes; the rest of both outputs is zero,
+// and all of them after a refusal.
+pub fn read(bundle: &[u8], out_table: &mut [u32], out_pool: &mut [u8]) -> Filled
+    ensures { λ r. ⌜ r ≡ bundleRead (now (bundle .entry)) (length (now («out_table» .entry))) (length (now («out_pool» .entry))) .answer ⌝ }
+    ensures { λ _. ⌜ now («out_table» .exit) ≡ bundleRead (now (bundle .entry)) (length (now («out_table» .entry))) (length (now («out_pool» .entry))) .table ⌝ }
+    ensures { λ _. ⌜ now («out_pool» .exit) ≡ bundleRead (now (bundle .entry)) (length (now («out_table» .entry))) (length (now («out_pool» .entry))) .pool ⌝ }
+{
+    if bundles::rows_named(bundle) > checker::FEW_ROWS {
+        return read_any(bundle, out_table, out_pool);
+    }
+    if bundles::bytes_named(bundle) > bundles::SHORT_POOL {
+        return read_any(bundle, out_table, out_pool);
+    }
+    read_few(bundle, out_table, out_pool)
+}
+
+// Reads any bundle. Two places call it, so that it keeps its arrays, which are large, to itself.
+fn read_any(bundle: &[u8], out_table: &mut [u32], out_pool: &mut [u8]) -> Filled
+    ensures { λ r. ⌜ r ≡ bundleRead (now (bundle .entry)) (length (now («out_table» .entry))) (length (now («out_pool» .entry))) .answer ⌝ }
+    ensures { λ _. ⌜ now («out_table» .exit) ≡ bundleRead (now (bundle .entry)) (length (now («out_table» .entry))) (length (now («out_pool» .entry))) .table ⌝ }
+    ensures { λ _. ⌜ now («out_pool» .exit) ≡ bundleRead (now (bundle .entry)) (length (now («out_table» .entry))) (length (now («out_pool» .entry))) .pool ⌝ }
+{
+    let mut words = [buffers::UNREAD; WORDS];
+    match bundles::read_rows(bundle, &mut words) {
+        Opened::Rows(n) => {
+            let table = &words[..rules::WIDTH * n];
+            let pool = bundles::pool(bundle, n);
+            transfers::read(
+                checker::check(table, pool),
+                table,
+                pool,
+                out_table,
+                out_pool,
+            )
+        }
+        Opened::Refused(x) => outputs::refuse(out_table, out_pool, x),
+    }
+}
+
+// Reads a bundle of few rows.
+fn read_few(bundle: &[u8], out_table: &mut [u32], out_pool: &mut [u8]) -> Filled
+    requires { ⌜ NamesAtMost (now bundle) FEW-ROWS ⌝ }
+    ensures { λ r. ⌜ r ≡ bundleRead (now (bundle .entry)) (length (now («out_table» .entry))) (length (now («out_pool» .entry))) .answer ⌝ }
+    ensures { λ _. ⌜ now («out_table» .exit) ≡ bundleRead (now (bundle .entry)) (length (now («out_table» .entry))) (length (now («out_pool» .entry))) .table ⌝ }
+    ensures { λ _. ⌜ now («out_pool» .exit) ≡ bundleRead (now (bundle .entry)) (length (now («out_table» .entry))) (length (now («out_pool» .entry))) .pool ⌝ }
+{
+    let mut words = [0; FEW_WORDS];
+    match bundles::read_rows(bundle, &mut words) {
+        Opened::Rows(n) => {
+            let table = &words[..rules::WIDTH * n];
+            let pool = bundles::pool(bundle, n);
+            transfers::read(
+                checker::check_small(table, pool),
+                table,
+                pool,
+                out_table,
+                out_pool,
+            )
+        }
+        Opened::Refused(x) => outputs::refuse(out_table, out_pool, x),
+    }
+}
