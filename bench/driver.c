@@ -1,14 +1,18 @@
 /* Runs an operation on a bundle from a file, so many times, and prints what it answers: the number and row of the refusal,
    what a lookup finds and how long it is, how many rows and bytes an output takes. The operation `copy` is what writing XML
    text is held against: the check, and a copy, byte by byte, of the text that is there already; `memcpy` makes the copy by
-   the C library. Run 0 times, an operation is run once on a stack of its own, and the bytes of stack that it took are
-   printed.
+   the C library. An operation whose name begins with `table_` is run over the table and the pool that the bundle stands for
+   (bench/over-tables), and one that ends in `_small` writes into small outputs. Run 0 times, an operation is run once on a
+   stack of its own, and the bytes of stack that it took are printed.
    Usage: driver OPERATION FILE TIMES [ROW QUERY] */
 #include <noemathu.h>
 #include <pthread.h>
 #include <stdio.h>
 #include <stdlib.h>
 #include <string.h>
+
+/* Room for the result of a small table. */
+enum { SMALL_ROWS = 20, SMALL_POOL = 512 };
 
 static uint8_t bundle[NOEMATHU_BUNDLE_MOST], out[NOEMATHU_BUNDLE_MOST], pool[NOEMATHU_MOST_POOL];
 static uint32_t table[NOEMATHU_MOST_WORDS], row;
@@ -43,13 +47,16 @@ static void default_uri(void) { keep(noemathu_default_uri(bundle, length, row));
 static void in_scope_uri(void) { keep(noemathu_in_scope_uri(bundle, length, row, query, query_length)); }
 static void in_scope_prefix(void) { keep(noemathu_in_scope_prefix(bundle, length, row, query, query_length)); }
 
-static void normalize(void)
+static void normalize_into(size_t room)
 {
-    noemathu_used used = noemathu_normalize(bundle, length, out, sizeof out);
+    noemathu_used used = noemathu_normalize(bundle, length, out, room);
     refusal = used.refusal;
     answer[0] = used.bytes ? noemathu_row_count(out) : 0;
     answer[1] = used.bytes;
 }
+
+static void normalize(void) { normalize_into(sizeof out); }
+static void normalize_small(void) { normalize_into(NOEMATHU_BUNDLE_BYTES(SMALL_ROWS, SMALL_POOL)); }
 
 static void read_bundle(void)
 {
@@ -95,13 +102,71 @@ static void *copy_bytes(void *to, const void *from, size_t n)
 static void copy(void) { checked_copy(copy_bytes); }
 static void copy_at_once(void) { checked_copy(memcpy); }
 
+/* The operations over a table and a pool. A slice is handed on by a pointer to its address and length. */
+typedef struct {
+    const void *first;
+    size_t length;
+} slice;
+
+void counted_check(noemathu_refusal *, const slice *table, const slice *pool);
+void counted_uri(noemathu_found *, const slice *table, const slice *pool, uint32_t row, const slice *prefix);
+void counted_prefix(noemathu_found *, const slice *table, const slice *pool, uint32_t row, const slice *uri);
+void counted_default_uri(noemathu_found *, const slice *table, const slice *pool, uint32_t row);
+void counted_in_scope_uri(noemathu_found *, const slice *table, const slice *pool, uint32_t row, const slice *prefix);
+void counted_in_scope_prefix(noemathu_found *, const slice *table, const slice *pool, uint32_t row, const slice *uri);
+void counted_normalize(noemathu_sizes *, const slice *table, const slice *pool, const slice *out_table, const slice *out_pool);
+
+static slice words, names, asked;
+
+static void table_check(void)
+{
+    counted_check(&refusal, &words, &names);
+}
+
+#define LOOKUP(name)                                                                                                           \
+    static void table_##name(void)                                                                                             \
+    {                                                                                                                          \
+        noemathu_found found;                                                                                                  \
+        counted_##name(&found, &words, &names, row, &asked);                                                                   \
+        keep(found);                                                                                                           \
+    }
+LOOKUP(uri)
+LOOKUP(prefix)
+LOOKUP(in_scope_uri)
+LOOKUP(in_scope_prefix)
+
+static void table_default(void)
+{
+    noemathu_found found;
+    counted_default_uri(&found, &words, &names, row);
+    keep(found);
+}
+
+/* Answers the rows of the result, and the bytes of a bundle that stands for it. */
+static void table_normalize_into(size_t rows, size_t bytes)
+{
+    static uint32_t out_table[NOEMATHU_MOST_WORDS];
+    slice table = {out_table, NOEMATHU_ROW_WORDS * rows}, pool = {out, bytes};
+    noemathu_sizes sizes;
+    counted_normalize(&sizes, &words, &names, &table, &pool);
+    refusal = sizes.refusal;
+    answer[0] = sizes.rows;
+    answer[1] = refusal.number ? 0 : NOEMATHU_BUNDLE_BYTES(sizes.rows, sizes.bytes);
+}
+
+static void table_normalize(void) { table_normalize_into(NOEMATHU_MOST_ROWS, NOEMATHU_MOST_POOL); }
+static void table_normalize_small(void) { table_normalize_into(SMALL_ROWS, SMALL_POOL); }
+
 static const struct {
     const char *name;
     void (*run)(void);
 } operations[] = {{"check", check}, {"uri", uri}, {"prefix", prefix}, {"default", default_uri},
                   {"in_scope_uri", in_scope_uri}, {"in_scope_prefix", in_scope_prefix}, {"normalize", normalize},
                   {"read", read_bundle}, {"write", write_bundle}, {"write_xml", write_xml}, {"copy", copy},
-                  {"memcpy", copy_at_once}};
+                  {"memcpy", copy_at_once}, {"normalize_small", normalize_small}, {"table_check", table_check},
+                  {"table_uri", table_uri}, {"table_prefix", table_prefix}, {"table_default", table_default},
+                  {"table_in_scope_uri", table_in_scope_uri}, {"table_in_scope_prefix", table_in_scope_prefix},
+                  {"table_normalize", table_normalize}, {"table_normalize_small", table_normalize_small}};
 
 static void *run_once(void *operation)
 {
@@ -144,8 +209,12 @@ int main(int argc, char **argv)
     row = argc == 6 ? (uint32_t)atol(argv[4]) : 0;
     query = (const uint8_t *)(argc == 6 ? argv[5] : "");
     query_length = strlen((const char *)query);
-    if (operation == write_bundle)
+    if (operation == write_bundle || strncmp(argv[1], "table_", 6) == 0)
         read_bundle();
+    words = (slice){table, NOEMATHU_ROW_WORDS * rows};
+    names = (slice){pool, bytes};
+    asked = (slice){query, query_length};
+    answer[0] = answer[1] = 0;
     if (operation == write_xml || operation == copy || operation == copy_at_once) {
         text_room = noemathu_xml_room(bundle);
         text = malloc(text_room);

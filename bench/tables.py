@@ -440,6 +440,8 @@ def main():
         for rows in (250, 500, 1000):
             make(rows).write("%s/%s-%d" % (sys.argv[1], make.__name__, rows))
     ordinary(10).write("%s/ordinary-10" % sys.argv[1])
+    for make in CHECKED[:1] + ASKED + WRITTEN[4:] + NORMALIZED + SLOW[-2:] + DEEPEST:
+        make(64).write("%s/%s-64" % (sys.argv[1], make.__name__))
     for make in SLOW + DEEPEST:
         make(1024).write("%s/%s-1024" % (sys.argv[1], make.__name__))
 
