@@ -41,7 +41,8 @@ ReadsBack =
     (e : ℕ) × (elementToWrite (nodes table pool) start ≡ some e)
     × (read (textLeft (textWritten table pool start size)) ≡ some (joined (meantTree (nodes table pool) e)))
 
--- Row r is a document, or an element that no other element is around: it has no parent, or lies in a document or a fragment.
+-- Row r is a document, or an element that no other element is around: outward from it are entity references at most, and then a
+-- document, a fragment or nothing.
 abbrev pub Outermost : List Node → ℕ → Type 0
 Outermost ns r = (node ns r .type ≡ DOCUMENT) ⊎ (elementsFrom ns r ≡ r ∷ [])
 
