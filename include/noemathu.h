@@ -167,7 +167,7 @@ extern "C" {
 
 /* Bytes of stack that are enough for any call. Measured were at most 69,320 for
    noemathu_write, 112,872 for noemathu_check and noemathu_read, 116,136 for the
-   lookups, 150,144 for noemathu_write_xml and 231,808 for noemathu_normalize. */
+   lookups, 178,928 for noemathu_write_xml and 231,808 for noemathu_normalize. */
 #define NOEMATHU_STACK 262144
 
 /* A small bundle, or a small table and its pool, and the bytes of stack that are
