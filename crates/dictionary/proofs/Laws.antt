@@ -6,12 +6,12 @@ use mathlib.Core.Bool.{false}
 use mathlib.Core.List.{List, []}
 use native.Mathlib.Omega.{arith}
 use borrow.Author.Tests.{eqb-true, eqb-false, eq-eqb, ne-eqb, ltb-true, ltb-false}
-use lib.ListN.{length, getD, drop, replicate, length-drop, length-replicate, getD-replicate, List·getD-eq-default}
+use lib.ListN.{length, getD, drop, replicate, length-take, length-drop, length-replicate, getD-replicate, List·getD-eq-default}
 use lib.Seq.{getD-drop}
 use lib.Dec.{eqb, ltb}
 use Rattle.rules.specs.Lists.{sameBytes}
 use Rattle.rules.specs.Table.{part}
-use Rattle.rules.proofs.Lists.{by-cases, equal-sameBytes, sameBytes-sym, sameBytes-empty, empty-equal, length-empty}
+use Rattle.rules.proofs.Lists.{by-cases, equal-sameBytes, unequal-sameBytes, sameBytes-sym, sameBytes-empty, empty-equal, length-empty}
 use Rattle.numbers.specs.Numbers.{Names, Spelling}
 use Rattle.numbers.proofs.Laws.{same-number, found-names, none-names}
 use Rattle.chains.specs.Chains.{latest}
@@ -19,6 +19,7 @@ use Rattle.chains.proofs.Laws.{latest-within, chain-none}
 use Rattle.entries.specs.Entries.{BUCKETS, LAST, NAMES, WIDTH, LENGTH, KIND, lastNumber, nameAt, isNamed, bucketAt, headAt, linkAt, Entries, Denotes}
 use Rattle.dictionary.specs.Dictionary.{PLACES, entriesOf, lastOf, spelling, Dictionary}
 use Rattle.entries.proofs.Finding.{entry}
+use Rattle.entries.proofs.PoolTables.{tables-none}
 
 -- The numbers of a dictionary stand for names, and no two for the same.
 pub spelled : {d pool : List ℕ} → Dictionary d pool → Spelling (spelling d pool) (lastOf d)
@@ -67,6 +68,14 @@ module _ {d pool : List ℕ} (g : Dictionary d pool) (name : List ℕ) where
       rw z (sameBytes-sym [] name ∙ sameBytes-empty name ∙ length-empty name ∙ ne-eqb (length name) 0 full))
       (λ t. let z = eqb-false n 0 t in none-names (spelling d pool) (lastOf d) name none n (omega arith) known)))
 
+  -- A name that has a number stands in the pool, and is not longer.
+  pub asked-long : length pool < length name → (n : ℕ) (bytes : List ℕ) → Names (spelling d pool) (lastOf d) n bytes → eqb n (lastOf d + 1) ≡ sameBytes bytes name
+  asked-long long n bytes names =
+      let known = names .known in
+      let short : length (spelling d pool n) ≤ length pool = simp (length-take, length-drop) (omega arith) in
+      ne-eqb n (lastOf d + 1) (λ e. omega arith)
+      ∙ sym (unequal-sameBytes bytes name (λ s. let same : length (spelling d pool n) ≡ length name = ap length (names .spelled ∙ s) in omega arith))
+
 -- A number that denotes a name has its words.
 pub has-words : {d pool name : List ℕ} → Dictionary d pool → (n : ℕ) → Denotes (entriesOf d) pool n name → PLACES + NAMES + WIDTH * n + WIDTH ≤ length d
 unfolding entriesOf
@@ -92,6 +101,7 @@ module _ (e pool : List ℕ) (zero : (i : ℕ) → getD e i 0 ≡ 0) where
       let last : lastNumber e ≡ 0 = zero LAST in
       record {
         room = omega arith;
+        tables = tables-none e pool (omega arith) zero;
         empty = zero (NAMES + WIDTH * 0 + LENGTH);
         kind = zero (NAMES + WIDTH * 0 + KIND);
         each = λ m l. absurd (omega arith);

@@ -35,13 +35,13 @@ module _ (d : List ℕ) (h : PLACES ≤ length d) where
   abbrev pub back : List ℕ → List ℕ
   back e = take PLACES d ++ (e ++ drop (length d - PLACES) (drop PLACES d))
 
-  entries-back : (e : List ℕ) → entriesOf (back e) ≡ e
+  pub entries-back : (e : List ℕ) → entriesOf (back e) ≡ e
   unfolding entriesOf
   entries-back e =
       drop-at (take PLACES d) (e ++ drop (length d - PLACES) (drop PLACES d)) PLACES (length-take-le PLACES d h)
       ∙ ap (λ rest. e ++ rest) (drop-of-length-le (drop PLACES d) {i = length d - PLACES} (rw length-drop (omega arith))) ∙ append-nil e
 
-  seen-back : (e : List ℕ) (s k : ℕ) → s < SLOTS → k < 3 → seen (back e) s k ≡ seen d s k
+  pub seen-back : (e : List ℕ) (s k : ℕ) → s < SLOTS → k < 3 → seen (back e) s k ≡ seen d s k
   seen-back e s k i j =
       let inside : 3 * s + k < length (take PLACES d) = rw (length-take-le PLACES d h) (omega arith) in
       List·getD-append (take PLACES d) (e ++ drop (length d - PLACES) (drop PLACES d)) 0 (3 * s + k) inside ∙ getD-take PLACES d (3 * s + k) 0 (omega arith)

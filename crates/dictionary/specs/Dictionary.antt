@@ -1,16 +1,18 @@
 -- A dictionary: the places seen, and the entries.
 use Prim.Native.Nat.{ℕ, _+_, _*_, _<_}
+use mathlib.Core.Bool.{Bool}
 use mathlib.Core.List.{List}
+use lib.Dec.{ltb}
 use lib.ListN.{getD, set, drop}
 use Rattle.rules.specs.Table.{part}
-use Rattle.entries.specs.Entries.{lastNumber, nameAt, Entries, Denotes}
+use Rattle.entries.specs.Entries.{HARD, MUCH, lastNumber, nameAt, Entries, Denotes}
 
 -- How many places are remembered, and their words: the offset, the length and the number of each.
 abbrev pub SLOTS : ℕ
-SLOTS = 512
+SLOTS = 1024
 
 abbrev pub PLACES : ℕ
-PLACES = 1536
+PLACES = 3072
 
 abbrev pub OFFSET : ℕ
 OFFSET = 0
@@ -32,6 +34,10 @@ entriesOf dictionary = drop PLACES dictionary
 -- the last number given, and the name of a number
 abbrev pub lastOf : List ℕ → ℕ
 lastOf dictionary = lastNumber (entriesOf dictionary)
+
+-- The names are hard for the plain hash.
+abbrev pub isHard : List ℕ → Bool
+isHard dictionary = ltb MUCH (getD (entriesOf dictionary) HARD 0)
 
 abbrev pub spelling : List ℕ → List ℕ → ℕ → List ℕ
 spelling dictionary pool = nameAt (entriesOf dictionary) pool

@@ -4,20 +4,20 @@
 ghost use mathlib.Core.Path.{_≡_};
 ghost use mathlib.Core.List.{List};
 ghost use Prim.Native.Nat.{ℕ, _+_, _*_, _≤_, _<_};
-ghost use lib.ListN.{length};
+ghost use lib.ListN.{length, getD};
 ghost use lib.Dec.{eqb};
 ghost use mathlib.Core.Bool.{_&&_};
 ghost use Rattle.rules.specs.Lists.{sameBytes};
-ghost use Rattle.rules.specs.Table.{part};
+ghost use Rattle.rules.specs.Table.{MOST-BYTES, part};
 ghost use Rattle.numbers.specs.Numbers.{Names};
 ghost use Rattle.kinds.specs.Kinds.{kindOf};
 ghost use Rattle.entries.specs.Entries.{NAMES, WIDTH, Denotes, Interned, HasRoom, Within};
-ghost use Rattle.dictionary.specs.Dictionary.{SLOTS, PLACES, OFFSET, LENGTH, seen, entriesOf, lastOf, spelling, Dictionary, remembered};
+ghost use Rattle.dictionary.specs.Dictionary.{SLOTS, PLACES, OFFSET, LENGTH, seen, entriesOf, lastOf, isHard, spelling, Dictionary, remembered};
 use rules::NameId;
 use rules::Place;
 
 // The places seen: offset, length and number of each.
-const SLOTS: usize = 512;
+const SLOTS: usize = 1024;
 
 const PLACES: usize = 3 * SLOTS;
 
@@ -65,7 +65,8 @@ pub fn recall(dictionary: &[u16], place: Place) -> NameId
     NameId(0)
 }
 
-// The number of a name, wherever its bytes stand; if it has none, the number after the last.
+// The number of a name, wherever its bytes stand; if it has none, the number after the last. A name longer than the pool
+// has none, and is not read.
 pub fn number_of_name(dictionary: &[u16], pool: &[u8], name: &[u8]) -> NameId
     requires { ⌜ Dictionary (now dictionary) (now pool) ⌝ }
     requires { ⌜ lastOf (now dictionary) < 65535 ⌝ }
@@ -75,11 +76,21 @@ pub fn number_of_name(dictionary: &[u16], pool: &[u8], name: &[u8]) -> NameId
     if name.len() == 0 {
         return NameId(0);
     }
-    let hash = hash::hash_of(name);
-    let found = entries::find(&dictionary[PLACES..], pool, name, hash);
+    if name.len() > pool.len() {
+        return unused(dictionary);
+    }
+    let found = entries::number_of(&dictionary[PLACES..], pool, name);
     if found.0 > 0 {
         return found;
     }
+    unused(dictionary)
+}
+
+// The number after the last, which no name has.
+fn unused(dictionary: &[u16]) -> NameId
+    requires { ⌜ (PLACES + NAMES ≤ length (now dictionary)) × (lastOf (now dictionary) < 65535) ⌝ }
+    ensures { λ r. ⌜ r .0 ≡ lastOf (now (dictionary .entry)) + 1 ⌝ }
+{
     NameId(last(dictionary).0 + 1)
 }
 
@@ -91,6 +102,36 @@ pub fn last(dictionary: &[u16]) -> NameId
     NameId(dictionary[PLACES + entries::LAST])
 }
 
+// The names are hard for the plain hash: long, or many of them in one bucket.
+pub fn is_hard(dictionary: &[u16]) -> bool
+    requires { ⌜ PLACES + NAMES ≤ length (now dictionary) ⌝ }
+    ensures { λ r. ⌜ r ≡ isHard (now (dictionary .entry)) ⌝ }
+{
+    dictionary[PLACES + entries::HARD] > entries::MUCH
+}
+
+// Begins anew with the empty name alone, for names that are hard: they get the hash of a key that the table and its
+// pool give.
+pub fn harden(dictionary: &mut [u16], table: &[u32], pool: &[u8])
+    requires { ⌜ (PLACES + NAMES + WIDTH ≤ length (now dictionary)) × (length (now pool) ≤ MOST-BYTES) ⌝ }
+    ensures { λ _. ⌜ Dictionary (now (dictionary .exit)) (now (pool .entry)) ⌝ }
+    ensures { λ _. ⌜ lastOf (now (dictionary .exit)) ≤ 0 ⌝ }
+{
+    let key = keyed::seed::key_of(table, pool);
+    clear(dictionary);
+    entries::key(&mut dictionary[PLACES..], pool, key);
+}
+
+fn clear(words: &mut [u16])
+    ensures { λ _. ⌜ ((i : ℕ) → getD (now (words .exit)) i 0 ≡ 0) ⌝ }
+{
+    let mut i = 0;
+    while i < words.len() {
+        words[i] = 0;
+        i += 1;
+    }
+}
+
 // The name of a number.
 pub fn name_of<'p>(dictionary: &[u16], pool: &'p [u8], number: NameId) -> &'p [u8]
     requires { ⌜ PLACES + NAMES + WIDTH * number .0 + WIDTH ≤ length (now dictionary) ⌝ }
@@ -100,20 +141,20 @@ pub fn name_of<'p>(dictionary: &[u16], pool: &'p [u8], number: NameId) -> &'p [u
 }
 
 // What the name of a number is.
-pub fn kind(dictionary: &[u16], number: NameId) -> u16
+pub fn name_kind(dictionary: &[u16], number: NameId) -> u16
     requires { ⌜ PLACES + NAMES + WIDTH * number .0 + WIDTH ≤ length (now dictionary) ⌝ }
     ensures { λ r. ⌜ ((pool name : List ℕ) → Dictionary (now (dictionary .entry)) pool → Denotes (entriesOf (now (dictionary .entry))) pool (number .0) name → r ≡ kindOf name) ⌝ }
 {
     entries::word(&dictionary[PLACES..], number, entries::KIND)
 }
 
-// The slot of a place. The round that an offset is in counts too, so that names of four or eight bytes
-// behind each other use all slots.
+// The slot of a place, by its offset alone. The round that an offset is in counts too, so that names of four or eight
+// bytes behind each other use all slots.
 fn slot_of(place: Place) -> usize
     ensures { λ r. ⌜ r < SLOTS ⌝ }
 {
     let offset = place.offset.0 as usize;
-    (offset + offset / SLOTS + 7 * place.length as usize) % SLOTS
+    (offset + offset / SLOTS) % SLOTS
 }
 
 // The slot remembers this place.

@@ -9,9 +9,9 @@ use Rattle.rules.specs.Table.{part}
 use Rattle.rules.proofs.Lists.{sameBytes-equal}
 use Rattle.chains.specs.Chains.{latest}
 use Rattle.chains.proofs.Laws.{latest-within, latest-passes}
-use Rattle.hash.specs.Hash.{hashOf}
 use Rattle.kinds.specs.Kinds.{kindOf}
-use Rattle.entries.specs.Entries.{lastNumber, nameAt, isNamed, Entries, Interned, HasRoom, Within, entered}
+use Rattle.tables.specs.Tables.{hashIn}
+use Rattle.entries.specs.Entries.{lastNumber, tablesOf, nameAt, isNamed, Entries, Interned, HasRoom, Within, entered}
 use Rattle.entries.proofs.Entering.{last-entered}
 use Rattle.entries.proofs.Entered.{name-kept, name-entered, entries-entered}
 
@@ -29,20 +29,20 @@ module _ (e pool : List ℕ) (g : Entries e pool) where
       }
 
   pub new-interned :
-      (offset size : ℕ) → HasRoom e → Within pool offset size → 0 < size → {name : List ℕ} → name ≡ part pool offset size
-      → {hash : ℕ} → hash ≡ hashOf name → {n : ℕ} → n ≡ latest (isNamed e pool name) (lastNumber e) → n ≤ 0 → {kind : ℕ} → kind ≡ kindOf name
-      → {new : ℕ} → new ≡ lastNumber e + 1 → {after : List ℕ} → after ≡ entered e offset size hash kind
+      (offset size hard : ℕ) → HasRoom e → Within pool offset size → 0 < size → {name : List ℕ} → name ≡ part pool offset size
+      → {hash : ℕ} → hash ≡ hashIn (tablesOf e) (part pool offset size) → {n : ℕ} → n ≡ latest (isNamed e pool name) (lastNumber e) → n ≤ 0 → {kind : ℕ} → kind ≡ kindOf (part pool offset size)
+      → {new : ℕ} → new ≡ lastNumber e + 1 → {after : List ℕ} → after ≡ entered e offset size hash kind hard
       → Entries after pool × Interned e after pool (part pool offset size) new
-  new-interned offset size room inside full part-is {hash} h {n} f z {kind} k new-is after-is =
+  new-interned offset size hard room inside full part-is {hash} h {n} f z {kind} k new-is after-is =
       let none : latest (isNamed e pool (part pool offset size)) (lastNumber e) ≡ 0 = (let o : n ≡ 0 = omega arith in sym (rw part-is at f) ∙ o) in
       let bytes : 0 < length (part pool offset size) = simp (length-take, length-drop) (omega arith) in
       let sized : size ≡ length (part pool offset size) = simp (length-take, length-drop) (omega arith) in
-      let last = last-entered e offset size hash kind (room .0) in
+      let last = last-entered e offset size hash kind hard (room .0) in
       rw (new-is, after-is) (
-        entries-entered e pool offset size hash kind (room .0) g (rw part-is at h) (rw part-is at k) sized bytes none,
+        entries-entered e pool offset size hash kind hard (room .0) g h k sized bytes none,
         record {
-          denotes = record { known = omega arith; spelled = name-entered e pool offset size hash kind (room .0) };
-          kept = λ m other d. (let l : m ≤ lastNumber e = d .known in record { known = omega arith; spelled = name-kept e pool offset size hash kind (room .0) m (omega arith) ∙ d .spelled });
+          denotes = record { known = omega arith; spelled = name-entered e pool offset size hash kind hard (room .0) };
+          kept = λ m other d. (let l : m ≤ lastNumber e = d .known in record { known = omega arith; spelled = name-kept e pool offset size hash kind hard (room .0) m (omega arith) ∙ d .spelled });
           few = omega arith;
         },
       )

@@ -1,21 +1,53 @@
-// The hash of a name: from its length and its bytes, by eights from the end. Bytes past the end count
-// as 0. There is no key in it, so names can be made that all share a bucket; each then costs a walk
-// past all the others.
+// The hash of a name: from its length and its bytes, by eights from the end. Of a name that is not whole
+// eights the last one overlaps the one before it. There is no key in it, so names can be made that all
+// share a bucket; each then costs a walk past all the others.
 ghost use mathlib.Core.Path.{_≡_};
-ghost use Prim.Native.Nat.{_+_, _<_};
-ghost use lib.ListN.{length, getD};
-ghost use Rattle.hash.specs.Hash.{four, mixed, hashOf};
+ghost use Prim.Native.Nat.{_+_, _/_, _%_, _≤_, _<_};
+ghost use lib.ListN.{length};
+ghost use Rattle.hash.specs.Hash.{four, mixed, mixedLong, mixedShort, hashOf};
 
 pub fn hash_of(name: &[u8]) -> u16
     ensures { λ r. ⌜ r ≡ hashOf (now (name .entry)) ⌝ }
 {
-    let mut h = (name.len() % 65536) as u32;
-    let mut k = (name.len() + 7) / 8;
+    if name.len() < 8 {
+        return top(mix_short(name));
+    }
+    top(mix_long(name))
+}
+
+// A name of eight bytes or more.
+fn mix_long(name: &[u8]) -> u32
+    requires { ⌜ 8 ≤ length (now name) ⌝ }
+    ensures { λ r. ⌜ r ≡ mixedLong (now (name .entry)) ⌝ }
+{
+    let size = name.len();
+    let mut h = mix(
+        (size % 65536) as u32,
+        four(name, size - 8),
+        four(name, size - 4),
+    );
+    let mut k = (size - 1) / 8;
     while k > 0 {
         k -= 1;
         h = mix(h, four(name, 8 * k), four(name, 8 * k + 4));
     }
-    (h / 65536 % 65536) as u16
+    h
+}
+
+// A name of less: its first four and its last four, or each byte.
+fn mix_short(name: &[u8]) -> u32
+    requires { ⌜ length (now name) < 8 ⌝ }
+    ensures { λ r. ⌜ r ≡ mixedShort (now (name .entry)) ⌝ }
+{
+    let size = name.len();
+    if size >= 4 {
+        return mix(size as u32, four(name, 0), four(name, size - 4));
+    }
+    if size == 0 {
+        return 0;
+    }
+    let bytes = wide(name[0]) + 256 * wide(name[size / 2]) + 65536 * wide(name[size - 1]);
+    mix(size as u32, bytes, 0)
 }
 
 // A step of the hash: a product with eight bytes, folded.
@@ -26,32 +58,22 @@ fn mix(h: u32, low: u32, high: u32) -> u32
     ((product + product / 4294967296) % 4294967296) as u32
 }
 
-// The four bytes from i on as a number: the compiler makes one read of them.
-fn four(name: &[u8], i: usize) -> u32
-    requires { ⌜ i < length (now name) + 4 ⌝ }
-    ensures { λ r. ⌜ r ≡ four (now (name .entry)) i ⌝ }
+// The upper half of a step's result.
+fn top(h: u32) -> u16
+    ensures { λ r. ⌜ r ≡ h / 65536 % 65536 ⌝ }
 {
-    if i + 4 <= name.len() {
-        return wide(name[i])
-            + 256 * wide(name[i + 1])
-            + 65536 * wide(name[i + 2])
-            + 16777216 * wide(name[i + 3]);
-    }
-    byte(name, i)
-        + 256 * byte(name, i + 1)
-        + 65536 * byte(name, i + 2)
-        + 16777216 * byte(name, i + 3)
+    (h / 65536 % 65536) as u16
 }
 
-// A byte of the name; 0 past its end.
-fn byte(name: &[u8], i: usize) -> u32
-    ensures { λ r. ⌜ r ≡ getD (now (name .entry)) i 0 ⌝ }
-    ensures { λ r. ⌜ r < 256 ⌝ }
+// The four bytes from i on as a number: the compiler makes one read of them.
+fn four(name: &[u8], i: usize) -> u32
+    requires { ⌜ i + 4 ≤ length (now name) ⌝ }
+    ensures { λ r. ⌜ r ≡ four (now (name .entry)) i ⌝ }
 {
-    if i < name.len() {
-        return wide(name[i]);
-    }
-    0
+    wide(name[i])
+        + 256 * wide(name[i + 1])
+        + 65536 * wide(name[i + 2])
+        + 16777216 * wide(name[i + 3])
 }
 
 // A byte as a number.

@@ -50,7 +50,7 @@ fn plain_kind(name: &[u8]) -> u16
 }
 
 // What any name is.
-fn any_kind(name: &[u8]) -> u16
+pub fn any_kind(name: &[u8]) -> u16
     ensures { λ r. ⌜ r ≡ kindOf (now (name .entry)) ⌝ }
 {
     if name.len() == 0 {

@@ -7,9 +7,9 @@ use mathlib.Core.List.{List, [], _∷_}
 use native.Mathlib.Nat.{le-of-suc-le-suc, not-suc-le-zero, zero-add, suc-add}
 use native.Mathlib.Numerals.{add-one}
 use native.Mathlib.Omega.{arith}
-use borrow.Author.Tests.{eq-eqb}
+use borrow.Author.Tests.{eq-eqb, le-leb}
 use lib.Dec.{eqb, leb}
-use lib.ListN.{length, getD, take, drop, length-drop, drop-of-length-le}
+use lib.ListN.{length, getD, take, drop, length-take, length-drop, drop-of-length-le}
 use lib.Seq.{drop-cons, drop-drop}
 use Rattle.rules.specs.Lists.{allOf, sameBytes}
 use Rattle.rules.specs.Table.{part}
@@ -78,6 +78,28 @@ module _ (a b : List ℕ) where
       rw (e, f, ← drop-drop m i a, ← drop-drop m i b)
       (same-taken m n (drop i a) (drop i b) (simp length-drop (omega arith)) (simp length-drop (omega arith)))
 
+-- What is left of two strings of one length is compared byte by byte.
+module _ (a b : List ℕ) (seen : Bool) (i : ℕ) (level : length a ≡ length b) where
+  pub rest-byte : i < length a → ((seen && eqb (getD a i 0) (getD b i 0)) && sameBytes (drop (i + 1) a) (drop (i + 1) b)) ≡ (seen && sameBytes (drop i a) (drop i b))
+  rest-byte h = rw (and-assoc, add-one, drop-cons a i 0 h, drop-cons b i 0 (omega arith)) refl
+
+  pub rest-end : length a ≤ i → (seen && sameBytes (drop i a) (drop i b)) ≡ seen
+  rest-end h = rw (drop-of-length-le a {i = i} h, drop-of-length-le b {i = i} (omega arith), and-true) refl
+
+-- Parts of strings of one length have one length.
+pub part-level : (a b : List ℕ) (n i : ℕ) → length a ≡ length b → length (part a i n) ≡ length (part b i n)
+part-level a b n i level = rw (length-take, length-drop, length-take, length-drop, level) refl
+
+-- The same from the start of a group on, where they are behind it and the group is.
+pub group-before : (a b : List ℕ) (n j : ℕ) {i : ℕ} → j + n ≡ i → EqualFrom a b i → sameBytes (part a j n) (part b j n) ≡ true → EqualFrom a b j
+group-before a b n j {i} e from group =
+    let back : i - n ≡ j = omega arith in
+    rw back at (equal-group a b n i (omega arith) from (rw back group))
+
+-- Strings that are the same from i on are the same if their fronts are.
+pub front-decides : (a b : List ℕ) (i : ℕ) → EqualFrom a b i → sameBytes (take i a) (take i b) ≡ sameBytes a b
+front-decides a b i from = sym (ap (λ t. t && sameBytes (take i a) (take i b)) (from .behind)) ∙ end-then-front a b i
+
 module _ (test : ℕ → Bool) (l : List ℕ) (i : ℕ) where
   pub all-step : i < length l → test (getD l i 0) ≡ true → allOf test (drop (i + 1) l) ≡ allOf test (drop i l)
   all-step h e = rw (add-one, drop-cons l i 0, e)
@@ -91,6 +113,9 @@ module _ (test : ℕ → Bool) (l : List ℕ) (i : ℕ) where
 -- A small letter comes first; what is no small letter is one of the others.
 pub first-small : (colons : Bool) (b : ℕ) → isBetween 97 122 b ≡ true → true ≡ isFirstByte colons b
 first-small colons b e = rw (e, or-true)
+
+pub first-high : (colons : Bool) (b : ℕ) → 128 ≤ b → true ≡ isFirstByte colons b
+first-high colons b h = rw (le-leb 128 b h, or-true)
 
 pub first-other : (colons : Bool) (b : ℕ) → isBetween 97 122 b ≡ false → (isBetween 65 90 b || eqb b 95 || leb 128 b || colons && eqb b 58) ≡ isFirstByte colons b
 first-other colons b e = rw (e, or-false)

@@ -1,7 +1,7 @@
 // Well-formed UTF-8, by the table of byte sequences of RFC 3629, section 4.
 ghost use mathlib.Core.Path.{_≡_};
 ghost use Prim.Native.Nat.{_<_, _≤_};
-ghost use lib.ListN.{length};
+ghost use lib.ListN.{length, getD};
 ghost use Rattle.rules.specs.Lists.{allOf};
 ghost use Rattle.rules.specs.Utf8.{following, wellFormed, isAscii, isIn};
 ghost use Rattle.utf8.specs.Steps.{rangesOf, Step};
@@ -42,17 +42,39 @@ pub fn is_ascii(bytes: &[u8]) -> bool
     all
 }
 
-// From byte i, how many bytes are whole sequences: eight of one byte each, or one sequence, or none.
+// From byte i, how many bytes are whole sequences: eight or fewer of one byte each, or one sequence, or none.
 fn step(bytes: &[u8], i: usize) -> usize
     requires { ⌜ i < length (now bytes) ⌝ }
     ensures { λ r. ⌜ Step (now (bytes .entry)) i r ⌝ }
 {
-    if bytes.len() - i >= 8 {
-        if is_ascii(&bytes[i..i + 8]) {
-            return 8;
-        }
+    if bytes[i] >= 128 {
+        return sequence(bytes, i);
     }
-    sequence(bytes, i)
+    if bytes.len() - i < 8 {
+        return run(bytes, i);
+    }
+    if bytes[i + 7] >= 128 {
+        return run(bytes, i);
+    }
+    if is_ascii(&bytes[i..i + 8]) {
+        return 8;
+    }
+    run(bytes, i)
+}
+
+// From byte i, which is one, how many bytes of ASCII follow each other.
+fn run(bytes: &[u8], i: usize) -> usize
+    requires { ⌜ (i < length (now bytes)) × (getD (now bytes) i 0 < 128) ⌝ }
+    ensures { λ r. ⌜ Step (now (bytes .entry)) i r ⌝ }
+{
+    let mut j = i + 1;
+    while j < bytes.len() {
+        if bytes[j] >= 128 {
+            return j - i;
+        }
+        j += 1;
+    }
+    j - i
 }
 
 // The length of the sequence at byte i, or 0 where none stands there.

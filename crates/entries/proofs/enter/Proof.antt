@@ -80,14 +80,17 @@ mul-entries-5 c = search needs
 slice-write-entries-5 : tie.Need-slice-write-entries-5
 slice-write-entries-5 c = simp length-set (omega arith)
 
-mul-entries-6 : tie.Need-mul-entries-6
-mul-entries-6 c = search needs
-
 slice-write-entries-6 : tie.Need-slice-write-entries-6
 slice-write-entries-6 c = simp length-set (omega arith)
 
+mul-entries-6 : tie.Need-mul-entries-6
+mul-entries-6 c = search needs
+
 slice-write-entries-7 : tie.Need-slice-write-entries-7
 slice-write-entries-7 c = simp length-set (omega arith)
+
+slice-write-entries-8 : tie.Need-slice-write-entries-8
+slice-write-entries-8 c = simp length-set (omega arith)
 
 same-length : tie.Need-same-length
 same-length c = simp length-set
@@ -97,4 +100,4 @@ unfolding entered
 returns c = (refl, refl)
 
 pub enter-spec : {M : Type 1} → statement M
-enter-spec = tie.close (tie.spec slice-read-number add-number cast-at mul-at add-at mul-link slice-read-link cast-entries add-entries mul-entries slice-write-entries cast-entries-2 add-entries-2 mul-entries-2 slice-write-entries-2 add-entries-3 mul-entries-3 slice-write-entries-3 add-entries-4 mul-entries-4 slice-write-entries-4 add-entries-5 mul-entries-5 slice-write-entries-5 mul-entries-6 slice-write-entries-6 slice-write-entries-7 same-length returns)
+enter-spec = tie.close (tie.spec slice-read-number add-number cast-at mul-at add-at mul-link slice-read-link cast-entries add-entries mul-entries slice-write-entries cast-entries-2 add-entries-2 mul-entries-2 slice-write-entries-2 add-entries-3 mul-entries-3 slice-write-entries-3 add-entries-4 mul-entries-4 slice-write-entries-4 add-entries-5 mul-entries-5 slice-write-entries-5 slice-write-entries-6 mul-entries-6 slice-write-entries-7 slice-write-entries-8 same-length returns)

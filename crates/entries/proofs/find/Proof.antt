@@ -1,6 +1,6 @@
 -- `find` meets its contract. The invariant: what is left of the chain decides.
 -- Assumes nothing.
-use Prim.Native.Nat.{_%_}
+use Prim.Native.Nat.{_+_, _%_, _≤_}
 use mathlib.Core.Path.{refl, sym, _∙_}
 use native.Mathlib.Omega.{arith}
 use borrow.Author.Needs.{needs}
@@ -13,10 +13,11 @@ use Rattle.entries.proofs.find.Statement.{statement}
 use Rattle.entries.proofs.find.Tie as tie
 
 abbrev Inv-loop : tie.InvT-loop
-Inv-loop entries pool name hash at₀ at = Walked (isNamed entries pool name) (bucketAt entries) (hash % BUCKETS) (lastNumber entries) at
+Inv-loop entries pool name hash at₀ others₀ at others =
+    Walked (isNamed entries pool name) (bucketAt entries) (hash % BUCKETS) (lastNumber entries) at × (others + at ≤ lastNumber entries)
 
 abbrev μ-loop : tie.MeasureT-loop
-μ-loop entries pool name hash at₀ at = at
+μ-loop entries pool name hash at₀ others₀ at others = at
 
 looking : (s : tie.Start Inv-loop μ-loop) → Search BUCKETS (bucketAt (now (s .args .entries))) (headAt (now (s .args .entries))) (linkAt (now (s .args .entries))) (lastNumber (now (s .args .entries))) (s .args .hash % BUCKETS) (isNamed (now (s .args .entries)) (now (s .args .pool)) (now (s .args .name)))
 looking s = name-search (now (s .args .entries)) (now (s .args .pool)) (s .pre .0) (now (s .args .name)) (s .args .hash) (s .pre .1)
@@ -28,36 +29,43 @@ shared-slice-read-at : tie.Need-shared-slice-read-at Inv-loop μ-loop
 shared-slice-read-at c = search needs
 
 loop-holds : tie.Need-loop-holds Inv-loop μ-loop
-loop-holds c = walk-start (looking (c .before .before .before .before)) _ refl
+loop-holds c = let w = walk-start (looking (c .before .before .before .before)) _ refl in let l = w .within in (w, omega arith)
 
 is-named-requires : tie.Need-is-named-requires Inv-loop μ-loop
 is-named-requires c κs =
     let s = c .before .before .before .before .before .before in
-    (s .pre .0, (s .pre .1, (c .loop-test .taken, c .before .loop .inv .within)))
+    (s .pre .0, (s .pre .1, (c .loop-test .taken, c .before .loop .inv .0 .within)))
 
 returns : tie.Need-returns Inv-loop μ-loop
 returns c =
     let l = c .before .before .before in
-    sym (walk-found (looking (l .before .before .before .before .before)) (l .loop .at) (l .loop .inv) (c .before .before .loop-test .taken) (sym (c .before .is-named .ensures) ∙ c .if1 .taken))
+    sym (walk-found (looking (l .before .before .before .before .before)) (l .loop .at) (l .loop .inv .0) (c .before .before .loop-test .taken) (sym (c .before .is-named .ensures) ∙ c .if1 .taken))
 
 word-requires : tie.Need-word-requires Inv-loop μ-loop
 word-requires c κs = search needs
 
+add-others : tie.Need-add-others Inv-loop μ-loop
+add-others c = search needs
+
 loop-less : tie.Need-loop-less Inv-loop μ-loop
 loop-less c =
     let l = c .before .before .before .before in
-    walk-falls (looking (l .before .before .before .before .before)) (l .loop .at) (l .loop .inv) (c .before .before .before .loop-test .taken) (c .word .result) (c .word .ensures)
+    walk-falls (looking (l .before .before .before .before .before)) (l .loop .at) (l .loop .inv .0) (c .before .before .before .loop-test .taken) (c .word .result) (c .word .ensures)
 
 loop-again : tie.Need-loop-again Inv-loop μ-loop
 loop-again c =
     let l = c .before .before .before .before in
-    walk-next (looking (l .before .before .before .before .before)) (l .loop .at) (l .loop .inv) (c .before .before .before .loop-test .taken) (c .word .result) (c .word .ensures) (sym (c .before .before .is-named .ensures) ∙ c .before .if1 .left)
+    let s = looking (l .before .before .before .before .before) in
+    let t = c .before .before .before .loop-test .taken in
+    let falls = walk-falls s (l .loop .at) (l .loop .inv .0) t (c .word .result) (c .word .ensures) in
+    let fits = l .loop .inv .1 in
+    (walk-next s (l .loop .at) (l .loop .inv .0) t (c .word .result) (c .word .ensures) (sym (c .before .before .is-named .ensures) ∙ c .before .if1 .left), omega arith)
 
 returns-2 : tie.Need-returns-2 Inv-loop μ-loop
 returns-2 c =
     let l = c .before in
-    let z = walk-end (looking (l .before .before .before .before .before)) (l .loop .at) (l .loop .inv) (omega arith) in
+    let z = walk-end (looking (l .before .before .before .before .before)) (l .loop .at) (l .loop .inv .0) (omega arith) in
     omega arith
 
 pub find-spec : {M : Type 1} → statement M
-find-spec = tie.close (tie.spec Inv-loop μ-loop mul-at shared-slice-read-at loop-holds is-named-requires returns word-requires loop-less loop-again returns-2)
+find-spec = tie.close (tie.spec Inv-loop μ-loop mul-at shared-slice-read-at loop-holds is-named-requires returns word-requires add-others loop-less loop-again returns-2)

@@ -1,4 +1,4 @@
--- `kind` meets its contract.
+-- `name_kind` meets its contract.
 -- Assumes nothing.
 use mathlib.Core.Path.{ap, _∙_}
 use mathlib.Core.List.{List}
@@ -7,8 +7,8 @@ use denote.Ref.{now}
 use Rattle.entries.specs.Entries.{KIND, word}
 use Rattle.dictionary.proofs.Places.{has-places, lent, kind-named}
 use borrow.Author.Needs.{needs}
-use Rattle.dictionary.proofs.kind.Statement.{statement}
-use Rattle.dictionary.proofs.kind.Tie as tie
+use Rattle.dictionary.proofs.name_kind.Statement.{statement}
+use Rattle.dictionary.proofs.name_kind.Tie as tie
 
 sub-word : tie.Need-sub-word
 sub-word c = search needs
@@ -27,5 +27,5 @@ returns c =
     let s = c .before .before .before in
     λ pool name g named. c .word .ensures ∙ ap (λ (e : List ℕ). word e (s .args .number .0) KIND) (lent (now (s .args .dictionary)) (has-places g)) ∙ kind-named g (s .args .number .0) named
 
-pub kind-spec : {M : Type 1} → statement M
-kind-spec = tie.close (tie.spec sub-word part-word-start part-word-end word-requires returns)
+pub name-kind-spec : {M : Type 1} → statement M
+name-kind-spec = tie.close (tie.spec sub-word part-word-start part-word-end word-requires returns)
