@@ -1,8 +1,8 @@
 -- The pass over the rows: what one row is refused for, and what the rows that are left are.
 -- Assumes nothing.
-use Prim.Native.Nat.{ℕ, _+_, _*_, _≤_, _<_}
+use Prim.Native.Nat.{ℕ, _+_, _-_, _*_, _≤_, _<_}
 use mathlib.Core.Path.{_≡_, refl, sym, ap, _∙_}
-use mathlib.Core.Bool.{Bool, true, false}
+use mathlib.Core.Bool.{true, false}
 use mathlib.Core.List.{List, [], _∷_}
 use mathlib.Core.Option.{Option, none, some}
 use native.Mathlib.Omega.{arith}
@@ -17,21 +17,22 @@ use Rattle.rules.proofs.Lists.{by-cases}
 use Rattle.rules.proofs.Refusals.{verdict-accepted, verdict-refused, first-alone, first-append, refusalFrom, from-start, from-refused, from-next, from-end}
 use Rattle.notes.specs.Notes.{NOTES, LATEST, noteAt}
 use Rattle.numbers.specs.Noted.{NodeNumbered, Numbered}
-use Rattle.dictionary.specs.Dictionary.{lastOf, spelling, Dictionary}
+use Rattle.entries.specs.Entries.{NAMES}
+use Rattle.dictionary.specs.Dictionary.{PLACES, lastOf, spelling, Dictionary}
 use Rattle.dictionary.proofs.Laws.{spelled, cleared, none-given}
 use Rattle.tree.specs.Children.{lastBefore, Latest}
+use Rattle.tree.proofs.Children.{latest-passed}
 use Rattle.numbering.specs.Numbering.{HasRoom, RowNumbered}
 use Rattle.faults.specs.Faults.{faultRefusal}
-use Rattle.doubles.specs.Doubles.{BUCKETS, Entered}
+use Rattle.faults.proofs.Laws.{parent-before}
+use Rattle.doubles.specs.Doubles.{BUCKETS, bucketAt, Entered}
 use Rattle.doubles.proofs.Adding.{begun, renumbered}
-use Rattle.conflicts.specs.Conflicts.{conflictRefusal}
-use Rattle.conflicts.proofs.Laws.{conflicts-all}
-use Rattle.checker.specs.Lent.{dictionaryWords, Lent, Named}
+use Rattle.conflicts.specs.Conflicts.{conflictRefusal, settled}
+use Rattle.conflicts.proofs.Laws.{conflicts-all, settled-entered}
+use Rattle.fast_path.specs.Passing.{everyRow, Reached, Passed}
+use Rattle.checker.specs.Lent.{Lent, Enough, Named}
 use Rattle.checker.specs.Pass.{refusalAt, rowsRefusal}
-
--- All rows are entered.
-abbrev pub everyRow : ℕ → Bool
-everyRow r = true
+use Rattle.checker.proofs.Rest.{rest-passed}
 
 -- What row r is refused for: its faults, then its conflicts.
 module _ (table pool : List ℕ) (r : ℕ) (h : r < rowCount table) where
@@ -40,6 +41,9 @@ module _ (table pool : List ℕ) (r : ℕ) (h : r < rowCount table) where
   parts =
       first-append (faults (nodes table pool) (length pool) r) (conflicts (nodes table pool) r)
       ∙ ap (λ (o : Option Refusal). firstRefusal (faultRefusal table pool r ∷ o ∷ [])) (sym (conflicts-all table pool r h))
+
+  pub refused-passed : Passed table pool r → refusalAt table pool r ≡ none
+  refused-passed p = parts ∙ rw (p .faultless, p .alone) refl
 
   module _ {fault : Checked} (f : fault ≡ verdict (faultRefusal table pool r)) where
     pub refused-fault : (x : Refusal) → fault ≡ Checked.Refused x → refusalAt table pool r ≡ some x
@@ -75,30 +79,37 @@ pub record Going (table pool dictionary₀ notes₀ dictionary notes children ch
   pub records : length notes ≡ length notes₀
   pub links : length chains ≡ BUCKETS + MOST-ROWS + 1
 
--- The arrays are enough for the table.
-pub record Enough (table pool dictionary notes : List ℕ) : Type 0 where
-  pub rows : rowCount table ≤ MOST-ROWS
-  pub bytes : length pool ≤ MOST-BYTES
-  pub words : dictionaryWords (rowCount table) ≤ length dictionary
-  pub records : NOTES * rowCount table ≤ length notes
-
+-- The arrays that are lent are enough.
 pub enough : (table pool dictionary notes : List ℕ) → rowCount table ≤ MOST-ROWS → length pool ≤ MOST-BYTES → Lent table dictionary notes → Enough table pool dictionary notes
 enough table pool dictionary notes rows bytes l = record { rows = rows; bytes = bytes; words = l .words rows; records = l .records rows }
 
+pub still-enough :
+    {table pool dictionary notes after noted : List ℕ} → Enough table pool dictionary notes → length after ≡ length dictionary → length noted ≡ length notes
+    → Enough table pool after noted
+still-enough e d n = record { rows = e .rows; bytes = e .bytes; words = rw d (e .words); records = rw n (e .records) }
+
+pub has-flag : {table pool dictionary notes : List ℕ} → Enough table pool dictionary notes → (size : ℕ) → size ≡ length dictionary → PLACES + NAMES ≤ size
+has-flag e size s = let words = e .words in omega arith
+
+-- A dictionary that is lent is one of the empty name alone.
+pub lent-empty : (table pool dictionary notes : List ℕ) → Enough table pool dictionary notes → dictionary ≡ replicate (length dictionary) 0 → Dictionary dictionary pool × (lastOf dictionary ≤ 0)
+lent-empty table pool dictionary notes e zero =
+    let words = e .words in
+    (rw zero (cleared (length dictionary) pool (omega arith)), rw zero (none-given (length dictionary)))
+
 -- Before the first row.
 pub going-start :
-    (table pool dictionary notes : List ℕ) → Enough table pool dictionary notes → dictionary ≡ replicate (length dictionary) 0
+    (table pool dictionary notes : List ℕ) → Enough table pool dictionary notes → Dictionary dictionary pool → lastOf dictionary ≤ 0
     → Going table pool dictionary notes dictionary notes (replicate MOST-ROWS NONE) (replicate (BUCKETS + MOST-ROWS + 1) 0) 0
 unfolding lastBefore
-going-start table pool dictionary notes e zero =
+going-start table pool dictionary notes e right empty =
     let rows = e .rows in
-    let words = e .words in
     record {
       bound = omega arith;
-      elements = record { few = rows; size = length-replicate {A = ℕ} MOST-ROWS NONE; holds = λ p h. getD-replicate {A = ℕ} MOST-ROWS p NONE 0 (omega arith) };
+      elements = record { few = rows; size = length-replicate {A = ℕ} MOST-ROWS NONE; holds = λ p h d. getD-replicate {A = ℕ} MOST-ROWS p NONE 0 (omega arith) };
       owned = begun everyRow table notes (BUCKETS + MOST-ROWS + 1) rows (e .records) (omega arith);
-      right = rw zero (cleared (length dictionary) pool (omega arith));
-      few = rw zero (none-given (length dictionary));
+      right = right;
+      few = omega arith;
       rows = λ q h. absurd (omega arith);
       kept = λ q k l h. refl;
       rest = from-start (refusalAt table pool) (rowCount table);
@@ -117,6 +128,32 @@ module _ {table pool dictionary₀ notes₀ dictionary notes children chains : L
       let bound = g .bound in
       let last : r ≡ rowCount table = omega arith in
       record { right = g .right; few = rw (← last) (g .few); numbered = record { spelled = spelled (g .right); rows = λ q i. g .rows q (omega arith) } }
+
+  -- Rows are passed at one look each, up to row s.
+  pub going-reached : Reached table pool dictionary notes chains r
+  going-reached = record { bound = g .bound; right = g .right; numbered = record { spelled = spelled (g .right); rows = g .rows }; owned = g .owned }
+
+  pub going-passed :
+      {s : ℕ} {noted chains′ : List ℕ} → Reached table pool dictionary noted chains′ s → r ≤ s → ((q : ℕ) → r ≤ q → q < s → Passed table pool q)
+      → ((q k : ℕ) → LATEST ≤ k → k < NOTES → noteAt noted q k ≡ noteAt notes q k) → length noted ≡ length notes → length chains′ ≡ length chains
+      → Going table pool dictionary₀ notes₀ dictionary noted children chains′ s
+  going-passed {s} reached onward passed kept records links =
+      let few = g .few in
+      let bound = reached .bound in
+      let here : r + (s - r) ≡ s = omega arith in
+      record {
+        bound = bound;
+        elements = rw here at (latest-passed isElement table children r (s - r) (g .elements) (λ q i j. passed q i (omega arith) .inside .above));
+        owned = reached .owned;
+        right = g .right;
+        few = omega arith;
+        rows = reached .numbered .rows;
+        kept = λ q k i j. kept q k i j ∙ g .kept q k i j;
+        rest = rw here at (rest-passed (refusalAt table pool) (rowCount table) r (s - r) (omega arith) (λ q i j. refused-passed table pool q (omega arith) (passed q i (omega arith)))) ∙ g .rest;
+        words = g .words;
+        records = records ∙ g .records;
+        links = links ∙ g .links;
+      }
 
   module _ (h : r < rowCount table) where
     pub going-refused : (x : Refusal) → refusalAt table pool r ≡ some x → Checked.Refused x ≡ verdict (rowsRefusal table pool)
@@ -159,7 +196,7 @@ module _ {table pool dictionary₀ notes₀ dictionary notes children chains : L
       pub going-kept : (q k : ℕ) → LATEST ≤ k → k < NOTES → noteAt noted q k ≡ noteAt notes₀ q k
       going-kept q k i j = n .others q k j (λ e m. omega arith) ∙ g .kept q k i j
 
-      pub going-next :
+      going-next :
           {children′ chains′ : List ℕ} → Latest isElement table children′ (r + 1) → Entered everyRow table noted chains′ (r + 1) → refusalAt table pool r ≡ none → length after ≡ length dictionary → length chains′ ≡ length chains
           → Going table pool dictionary₀ notes₀ after noted children′ chains′ (r + 1)
       going-next elements owned passed words links =
@@ -178,6 +215,14 @@ module _ {table pool dictionary₀ notes₀ dictionary notes children chains : L
             records = l ∙ g .records;
             links = links ∙ g .links;
           }
+
+      -- Row r draws nothing and is entered.
+      pub going-row :
+          {fault conflict : Checked} → fault ≡ verdict (faultRefusal table pool r) → fault ≡ Checked.Accepted → conflict ≡ verdict (conflictRefusal everyRow (nodes table pool) r) → conflict ≡ Checked.Accepted
+          → {children′ chains′ : List ℕ} → Latest isElement table children′ (r + 1) → chains′ ≡ settled conflict chains (bucketAt table noted (r + 1)) r → length after ≡ length dictionary → length chains′ ≡ length chains
+          → Going table pool dictionary₀ notes₀ after noted children′ chains′ (r + 1)
+      going-row f a c b elements chained words links =
+          going-next elements (rw chained (settled-entered h going-owned refl refl (parent-before table pool r h (no-fault table pool r h f a)) b)) (refused-none table pool r h f a c b) words links
 
 -- The whole check.
 module _ (table pool : List ℕ) where

@@ -52,7 +52,7 @@ fn bad_declaration(table: &[u32], dictionary: &[u16], notes: &[u16], row: Row) -
     if rows::kind(table, row) != rules::DECLARATION {
         return false;
     }
-    let local = dictionary::kind(dictionary, notes::name(notes, row, notes::LOCAL_NAME));
-    let value = dictionary::kind(dictionary, notes::name(notes, row, notes::VALUE));
+    let local = dictionary::name_kind(dictionary, notes::name(notes, row, notes::LOCAL_NAME));
+    let value = dictionary::name_kind(dictionary, notes::name(notes, row, notes::VALUE));
     declaration::bad(local, value)
 }

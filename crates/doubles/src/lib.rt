@@ -4,7 +4,7 @@
 // through the rows decides which are entered.
 ghost use mathlib.Core.Path.{_≡_};
 ghost use mathlib.Core.List.{List};
-ghost use mathlib.Core.Bool.{Bool, true};
+ghost use mathlib.Core.Bool.{Bool, true, cond};
 ghost use Prim.Native.Nat.{ℕ, _+_, _*_, _≤_, _<_};
 ghost use lib.ListN.{length};
 ghost use lib.Dec.{ltb};
@@ -23,11 +23,11 @@ const BUCKETS: usize = 1024;
 pub const WORDS: usize = BUCKETS + rules::MOST_ROWS + 1;
 
 // What decides whether rows are doubles.
-struct Key {
-    owner: Row,
-    kind: u32,
-    local: NameId,
-    uri: NameId,
+pub struct Key {
+    pub owner: Row,
+    pub kind: u32,
+    pub local: NameId,
+    pub uri: NameId,
 }
 
 // The bucket of a row; one that is not compared has none, and BUCKETS is told.
@@ -67,6 +67,23 @@ pub fn enter(chains: &mut [u16], bucket: usize, row: Row)
     }
 }
 
+// Enters a row that is compared and has this key, unless it is a double of one that is entered, which is told.
+pub fn add(table: &[u32], notes: &[u16], chains: &mut [u16], key: Key, row: Row) -> bool
+    requires { ⌜ row .0 < rowCount (now table) ⌝ }
+    requires { ⌜ SomeEntered (now table) (now notes) (now chains) (row .0) ⌝ }
+    requires { ⌜ isOwned (keyOf (now table) (now notes) (row .0)) ≡ true ⌝ }
+    requires { ⌜ key ≡ keyOf (now table) (now notes) (row .0) ⌝ }
+    ensures { λ r. ⌜ ((enters : ℕ → Bool) (pool : List ℕ) (spelling : ℕ → List ℕ) (last : ℕ) → Entered enters (now (table .entry)) (now (notes .entry)) (now (chains .entry)) (row .0) → Numbered (now (table .entry)) pool (now (notes .entry)) spelling last (row .0 + 1) → r ≡ hasDouble enters (nodes (now (table .entry)) pool) (row .0)) ⌝ }
+    ensures { λ r. ⌜ now (chains .exit) ≡ cond r (now (chains .entry)) (entered (now (chains .entry)) (bucketAt (now (table .entry)) (now (notes .entry)) (row .0 + 1)) (row .0)) ⌝ }
+{
+    let bucket = bucket_of(key);
+    if has_key(table, notes, chains, bucket, key, row) {
+        return true;
+    }
+    enter(chains, bucket, row);
+    false
+}
+
 // A row that is entered has the key, which is this row's. The rows of a chain descend, and a row stands
 // behind its owner: those up to the owner are not looked at.
 fn has_key(table: &[u32], notes: &[u16], chains: &[u16], bucket: usize, key: Key, row: Row) -> bool
@@ -80,8 +97,12 @@ fn has_key(table: &[u32], notes: &[u16], chains: &[u16], bucket: usize, key: Key
     let r = row.0;
     let owner = key.owner.0;
     let mut at = head(chains, bucket).0;
-    while at as u32 > owner {
-        if same_key(key_of(table, notes, notes::row_at(Position(at))), key) {
+    while at > 0 {
+        let earlier = notes::row_at(Position(at));
+        if earlier.0 <= owner {
+            return false;
+        }
+        if same_key(key_of(table, notes, earlier), key) {
             return true;
         }
         at = link(chains, Position(at)).0;

@@ -4,13 +4,12 @@
 ghost use mathlib.Core.Path.{_≡_};
 ghost use Prim.Native.Nat.{ℕ, _*_, _≤_, _<_};
 ghost use lib.ListN.{length};
-ghost use Rattle.rules.specs.Lists.{allOf};
 ghost use Rattle.rules.specs.Table.{MOST-BYTES, rowCount, nodeAt, isElement};
-ghost use Rattle.rules.specs.Utf8.{isAscii};
 ghost use Rattle.rules.specs.Refusals.{verdict};
 ghost use Rattle.rules.specs.declared.Checked.{Checked};
 ghost use Rattle.notes.specs.Notes.{NOTES, LATEST, noteAt};
 ghost use Rattle.dictionary.specs.Dictionary.{Dictionary};
+ghost use Rattle.value_bytes.specs.Judging.{Judging};
 ghost use Rattle.tree.specs.Parents.{Right};
 ghost use Rattle.tree.specs.Children.{Latest};
 ghost use Rattle.numbering.specs.Numbering.{HasRoom, RowNumbered};
@@ -27,6 +26,7 @@ pub fn check(
     table: &[u32],
     pool: &[u8],
     ascii: bool,
+    marks: &[u16],
     allowed: &[u16],
     children: &[u32],
     dictionary: &mut [u16],
@@ -35,7 +35,7 @@ pub fn check(
 ) -> Checked
     requires { ⌜ (row .0 < rowCount (now table)) × (NOTES * rowCount (now table) ≤ length (now notes)) ⌝ }
     requires { ⌜ length (now pool) ≤ MOST-BYTES ⌝ }
-    requires { ⌜ ascii ≡ allOf isAscii (now pool) ⌝ }
+    requires { ⌜ Judging (now pool) (now marks) ascii ⌝ }
     requires { ⌜ Right (now allowed) ⌝ }
     requires { ⌜ Latest isElement (now table) (now children) (row .0) ⌝ }
     requires { ⌜ Dictionary (now dictionary) (now pool) ⌝ }
@@ -49,7 +49,8 @@ pub fn check(
         return place;
     };
     let kinds = numbering::number(table, pool, dictionary, notes, row);
-    row_names::check(table, pool, ascii, kinds, row)
+    let formed = value_bytes::is_well_formed(table, pool, ascii, marks, row);
+    row_names::check(table, pool, formed, kinds, row)
 }
 
 // The fault that a row has before its names are read: 2, then 3, 12 and 13.

@@ -15,7 +15,8 @@ use Rattle.rules.specs.declared.Place.{Place}
 use Rattle.rules.specs.declared.Refusal.{Refusal}
 use Rattle.rules.proofs.Lists.{both-true}
 use Rattle.rows.specs.Reading.{placeAt}
-use Rattle.fields.specs.Passes.{placeRefusalAt, lengthRefusalAt, isNothing}
+use Rattle.single_fields.specs.Single.{placeRefusalAt, lengthRefusalAt}
+use Rattle.fields.specs.Passes.{isNothing}
 use Rattle.fields.proofs.Passes.{passes}
 
 four-none : {a b c d : Option Refusal} → a ≡ none → b ≡ none → c ≡ none → d ≡ none → firstRefusal (a ∷ b ∷ c ∷ d ∷ []) ≡ none

@@ -5,16 +5,10 @@ use mathlib.Core.List.{List, map}
 use mathlib.Core.Option.{Option}
 use lib.Dec.{eqb}
 use lib.ListN.{length}
-use Rattle.rules.specs.Table.{TYPE, word, fieldAt, nodeAt, wordedFields}
+use Rattle.rules.specs.Table.{TYPE, word, nodeAt, wordedFields}
 use Rattle.rules.specs.Refusals.{firstRefusal, placeRefusal, lengthRefusal}
 use Rattle.rules.specs.declared.Refusal.{Refusal}
-
--- what the field of row r whose offset is word k is refused for: 3 or 12, and 13
-abbrev pub placeRefusalAt : List ℕ → List ℕ → ℕ → ℕ → Option Refusal
-placeRefusalAt table pool r k = placeRefusal (length pool) r (k, fieldAt table pool r k)
-
-abbrev pub lengthRefusalAt : List ℕ → List ℕ → ℕ → ℕ → Option Refusal
-lengthRefusalAt table pool r k = lengthRefusal (word table r TYPE) r (k, fieldAt table pool r k)
+pub use Rattle.single_fields.specs.Single.{placeRefusalAt, lengthRefusalAt}
 
 -- what the fields of row r are refused for: 3 or 12, and 13
 abbrev pub placesRefusal : List ℕ → List ℕ → ℕ → Option Refusal

@@ -6,11 +6,11 @@ ghost use lib.ListN.{length};
 ghost use Rattle.rules.specs.Table.{rowCount, nodeAt};
 ghost use Rattle.rules.specs.Refusals.{verdict, fieldsRefusal};
 ghost use Rattle.fields.specs.Passes.{placesRefusal, lengthsRefusal};
-use crate::empty;
-use crate::place;
 use crate::plain;
 use rules::Checked;
 use rules::Row;
+use single_fields::empty;
+use single_fields::place;
 
 // The first refusal that a field of the row draws.
 pub fn check(table: &[u32], pool: &[u8], row: Row) -> Checked

@@ -1,5 +1,3 @@
-// Refusals 3, 12 and 13: what the places of the fields of one row draw. A module for each group of them, and in it the test.
-mod empty;
+// Refusals 3, 12 and 13: what the places of the fields of one row draw.
 pub mod field;
-mod place;
 mod plain;

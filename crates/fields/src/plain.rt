@@ -8,7 +8,8 @@ ghost use lib.ListN.{length};
 ghost use Rattle.rules.specs.Table.{PREFIX, LOCAL-NAME, URI, rowCount, nodeAt};
 ghost use Rattle.rules.specs.Refusals.{fieldsRefusal};
 ghost use Rattle.rows.specs.Reading.{HasField};
-ghost use Rattle.fields.specs.Passes.{placeRefusalAt, isNothing};
+ghost use Rattle.single_fields.specs.Single.{placeRefusalAt};
+ghost use Rattle.fields.specs.Passes.{isNothing};
 use rows::wide;
 use rules::Row;
 

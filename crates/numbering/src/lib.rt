@@ -166,7 +166,7 @@ fn number_field(
     let number = dictionary::recall(dictionary, place);
     if number.0 > 0 {
         notes::set_name(notes, row, k, number);
-        return dictionary::kind(dictionary, number);
+        return dictionary::name_kind(dictionary, number);
     }
     number_new(table, pool, dictionary, notes, row, field, k)
 }
@@ -191,5 +191,5 @@ fn number_new(
 {
     let number = dictionary::number_of(dictionary, pool, rows::place(table, row, field));
     notes::set_name(notes, row, k, number);
-    dictionary::kind(dictionary, number)
+    dictionary::name_kind(dictionary, number)
 }

@@ -1,25 +1,21 @@
 -- Refusals 14 and 4 to 6 of one row, as the code tests them by the kinds of its names.
 -- Assumes nothing.
-use Prim.Native.Nat.{ℕ, zero, suc}
+use Prim.Native.Nat.{ℕ}
 use mathlib.Core.Path.{_≡_, refl, sym, ap, _∙_}
 use mathlib.Core.Bool.{Bool, true, false, _&&_, _||_, not, and-false, or-assoc, or-false}
-use mathlib.Core.List.{List, [], _∷_}
+use mathlib.Core.List.{List}
 use mathlib.Core.Option.{none}
 use native.Mathlib.Omega.{arith}
 use borrow.Author.Tests.{eqb-true, eqb-false, eq-eqb, ne-eqb, leb-true, le-leb}
 use lib.Dec.{eqb, leb}
-use lib.ListN.{take, drop}
-use Rattle.rules.specs.Lists.{allOf}
-use Rattle.rules.specs.Table.{PREFIX, LOCAL-NAME, URI, VALUE, ELEMENT, ATTRIBUTE, DECLARATION, Node, part, isLevel1}
-use Rattle.rules.specs.Utf8.{wellFormed, isAscii}
+use Rattle.rules.specs.Table.{PREFIX, LOCAL-NAME, URI, VALUE, ELEMENT, ATTRIBUTE, DECLARATION, Node, isLevel1}
+use Rattle.rules.specs.Utf8.{wellFormed}
 use Rattle.rules.specs.Refusals.{goodName, verdict, encodingsRefusal, badNames, badNamespace, badDeclaration}
 use Rattle.rules.specs.declared.Refusal.{Refusal}
 use Rattle.rules.specs.declared.Checked.{Checked}
-use Rattle.rules.proofs.Lists.{by-cases, both-true, true-both, either-left}
-use Rattle.rules.proofs.Utf8.{ascii-well-formed}
+use Rattle.rules.proofs.Lists.{by-cases, both-true, either-left}
 use Rattle.rules.proofs.Accepted.{fields-encoded}
 use Rattle.rules.proofs.Refusals.{verdict-accepted, verdict-refused}
-use Rattle.numbers.specs.Noted.{declaredUri}
 use Rattle.kinds.specs.Kinds.{EMPTY, GOOD, XML, XMLNS, GOOD-WITH-COLONS, OTHER, XML-URI, XMLNS-URI, MALFORMED, kindOf}
 use Rattle.kinds.proofs.NameKinds.{kind-empty, kind-xml, kind-xmlns, kind-xml-uri, kind-xmlns-uri, kind-malformed, kind-good, kind-good-with-colons}
 use Rattle.row_names.specs.declared.Kinds.{Kinds}
@@ -32,25 +28,6 @@ module _ (name : List ℕ) {kind : ℕ} (k : kind ≡ kindOf name) where
 
   pub is-well-formed : (kind ≡ MALFORMED → ⊥) → wellFormed name ≡ true
   is-well-formed e = kind-malformed name ∙ ap not (ne-eqb (kindOf name) MALFORMED (λ m. e (k ∙ m)))
-
-  pub value-tested : eqb kind MALFORMED ≡ not (wellFormed name)
-  value-tested = rw (k, kind-malformed name) (by-cases (eqb (kindOf name) MALFORMED) (λ e. rw e) (λ e. rw e))
-
--- The values of a pool of ASCII are well-formed.
-ascii-drop : (n : ℕ) (bs : List ℕ) → allOf isAscii bs ≡ true → allOf isAscii (drop n bs) ≡ true
-ascii-drop zero bs a = a
-ascii-drop (suc n) [] a = refl
-ascii-drop (suc n) (b ∷ bs) a = ascii-drop n bs (both-true (isAscii b) (allOf isAscii bs) a .1)
-
-ascii-take : (n : ℕ) (bs : List ℕ) → allOf isAscii bs ≡ true → allOf isAscii (take n bs) ≡ true
-ascii-take zero bs a = refl
-ascii-take (suc n) [] a = refl
-ascii-take (suc n) (b ∷ bs) a =
-    let h = both-true (isAscii b) (allOf isAscii bs) a in
-    true-both (h .0) (ascii-take n bs (h .1))
-
-pub ascii-value : (pool : List ℕ) → allOf isAscii pool ≡ true → (offset size : ℕ) → false ≡ not (wellFormed (part pool offset size))
-ascii-value pool a offset size = sym (ap not (ascii-well-formed (part pool offset size) (ascii-take size (drop offset pool) (ascii-drop offset pool a))))
 
 -- 14, of the fields in word order
 module _ (r : ℕ) (n : Node) where
@@ -90,13 +67,6 @@ module _ (n : Node) {kinds : Kinds} (k : kinds ≡ kindsOf n) where
   pub kind-uri : kinds .uri ≡ kindOf (n .uri .bytes)
   unfolding kindsOf
   kind-uri = rw k
-
-  pub kind-value : kinds .value ≡ kindOf (declaredUri n)
-  unfolding kindsOf
-  kind-value = rw k
-
-  pub kind-declared : {type : ℕ} → type ≡ n .type → type ≡ DECLARATION → kinds .value ≡ kindOf (n .value .bytes)
-  kind-declared t d = kind-value ∙ rw (eq-eqb (n .type) DECLARATION (sym t ∙ d))
 
 -- One of two types, or neither.
 neither : (a b : Bool) → (not a && not b) ≡ true → (a || (b || false)) ≡ false

@@ -1,10 +1,8 @@
 // Refusal 14: a field that is not well-formed UTF-8.
 ghost use mathlib.Core.Path.{_≡_};
-ghost use mathlib.Core.Bool.{not};
 ghost use Prim.Native.Nat.{_<_};
-ghost use Rattle.rules.specs.Lists.{allOf};
 ghost use Rattle.rules.specs.Table.{VALUE, rowCount, fieldAt, nodeAt};
-ghost use Rattle.rules.specs.Utf8.{isAscii, wellFormed};
+ghost use Rattle.rules.specs.Utf8.{wellFormed};
 ghost use Rattle.rules.specs.Refusals.{verdict, encodingsRefusal};
 ghost use Rattle.rules.specs.declared.Refusal.{Refusal};
 ghost use Rattle.rules.specs.declared.Checked.{Checked};
@@ -16,9 +14,9 @@ use rules::Refusal;
 use rules::Row;
 
 // The first refusal that a field of the row draws.
-pub fn check(table: &[u32], pool: &[u8], ascii: bool, kinds: Kinds, row: Row) -> Checked
+pub fn check(table: &[u32], pool: &[u8], formed: bool, kinds: Kinds, row: Row) -> Checked
     requires { ⌜ row .0 < rowCount (now table) ⌝ }
-    requires { ⌜ ascii ≡ allOf isAscii (now pool) ⌝ }
+    requires { ⌜ formed ≡ wellFormed (fieldAt (now table) (now pool) (row .0) VALUE .bytes) ⌝ }
     requires { ⌜ kinds ≡ kindsOf (nodeAt (now table) (now pool) (row .0)) ⌝ }
     ensures { λ r. ⌜ r ≡ verdict (encodingsRefusal (row .0) (nodeAt (now (table .entry)) (now (pool .entry)) (row .0))) ⌝ }
 {
@@ -31,27 +29,10 @@ pub fn check(table: &[u32], pool: &[u8], ascii: bool, kinds: Kinds, row: Row) ->
     if kinds.uri == MALFORMED {
         return malformed(row, rules::URI);
     }
-    if bad_value(table, pool, ascii, kinds, row) {
+    if !formed {
         return malformed(row, rules::VALUE);
     }
     Checked::Accepted
-}
-
-// The value is not well-formed. That of a declaration has a number; the others are read, unless the
-// whole pool is ASCII.
-pub fn bad_value(table: &[u32], pool: &[u8], ascii: bool, kinds: Kinds, row: Row) -> bool
-    requires { ⌜ row .0 < rowCount (now table) ⌝ }
-    requires { ⌜ ascii ≡ allOf isAscii (now pool) ⌝ }
-    requires { ⌜ kinds ≡ kindsOf (nodeAt (now table) (now pool) (row .0)) ⌝ }
-    ensures { λ r. ⌜ r ≡ not (wellFormed (fieldAt (now (table .entry)) (now (pool .entry)) (row .0) VALUE .bytes)) ⌝ }
-{
-    if rows::kind(table, row) == rules::DECLARATION {
-        return kinds.value == MALFORMED;
-    }
-    if ascii {
-        return false;
-    }
-    !utf8::well_formed(rows::field(table, pool, row, rules::VALUE))
 }
 
 pub fn malformed(row: Row, word: u32) -> Checked

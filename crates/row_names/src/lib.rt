@@ -2,9 +2,8 @@
 // each name is, so that no byte of it is read again.
 ghost use mathlib.Core.Path.{_≡_};
 ghost use Prim.Native.Nat.{_<_};
-ghost use Rattle.rules.specs.Lists.{allOf};
-ghost use Rattle.rules.specs.Table.{rowCount, nodeAt};
-ghost use Rattle.rules.specs.Utf8.{isAscii};
+ghost use Rattle.rules.specs.Table.{VALUE, rowCount, fieldAt, nodeAt};
+ghost use Rattle.rules.specs.Utf8.{wellFormed};
 ghost use Rattle.rules.specs.Refusals.{verdict};
 ghost use Rattle.row_names.specs.RowNames.{kindsOf, namesRefusal};
 use rules::Checked;
@@ -25,32 +24,32 @@ pub struct Kinds {
     pub value: u16,
 }
 
-// The first of 14, 4 and 5 that the row draws for its names, which are of these kinds. Whether the whole pool
-// is ASCII is known, so that the values of such a pool are not tried for 14.
-pub fn check(table: &[u32], pool: &[u8], ascii: bool, kinds: Kinds, row: Row) -> Checked
+// The first of 14, 4 and 5 that the row draws for its names, which are of these kinds, and its value, of which it is
+// known whether it is well-formed.
+pub fn check(table: &[u32], pool: &[u8], formed: bool, kinds: Kinds, row: Row) -> Checked
     requires { ⌜ row .0 < rowCount (now table) ⌝ }
-    requires { ⌜ ascii ≡ allOf isAscii (now pool) ⌝ }
+    requires { ⌜ formed ≡ wellFormed (fieldAt (now table) (now pool) (row .0) VALUE .bytes) ⌝ }
     requires { ⌜ kinds ≡ kindsOf (nodeAt (now table) (now pool) (row .0)) ⌝ }
     ensures { λ r. ⌜ r ≡ verdict (namesRefusal (row .0) (nodeAt (now (table .entry)) (now (pool .entry)) (row .0))) ⌝ }
 {
     if plain::is_plain(rows::kind(table, row), kinds) {
-        if encoding::bad_value(table, pool, ascii, kinds, row) {
+        if !formed {
             return encoding::malformed(row, rules::VALUE);
         }
         return Checked::Accepted;
     }
-    check_each(table, pool, ascii, kinds, row)
+    check_each(table, pool, formed, kinds, row)
 }
 
 // The tests one after the other.
-fn check_each(table: &[u32], pool: &[u8], ascii: bool, kinds: Kinds, row: Row) -> Checked
+fn check_each(table: &[u32], pool: &[u8], formed: bool, kinds: Kinds, row: Row) -> Checked
     requires { ⌜ row .0 < rowCount (now table) ⌝ }
-    requires { ⌜ ascii ≡ allOf isAscii (now pool) ⌝ }
+    requires { ⌜ formed ≡ wellFormed (fieldAt (now table) (now pool) (row .0) VALUE .bytes) ⌝ }
     requires { ⌜ kinds ≡ kindsOf (nodeAt (now table) (now pool) (row .0)) ⌝ }
     ensures { λ r. ⌜ r ≡ verdict (namesRefusal (row .0) (nodeAt (now (table .entry)) (now (pool .entry)) (row .0))) ⌝ }
 {
     let row_type = rows::kind(table, row);
-    let drawn = encoding::check(table, pool, ascii, kinds, row);
+    let drawn = encoding::check(table, pool, formed, kinds, row);
     let Checked::Accepted = drawn else {
         return drawn;
     };

@@ -67,7 +67,7 @@ module _ (table pool : List ℕ) (r : ℕ) (h : r < rowCount table) {kind parent
       unfolding secondElement under
       second-under q children c d g =
           let few : r ≤ NONE = (let f : rowCount table ≤ MOST-ROWS = c .few in omega arith) in
-          rw (node-nodes table pool r h, ← k, ← p, ← there, any-take _ table pool r (omega arith), eq-eqb above DOCUMENT q, and-true, g, d, c .holds parent (omega arith), last-any (under isElement table parent) r few r (omega arith))
+          rw (node-nodes table pool r h, ← k, ← p, ← there, any-take _ table pool r (omega arith), eq-eqb above DOCUMENT q, and-true, g, d, c .holds parent (omega arith) (sym t ∙ q), last-any (under isElement table parent) r few r (omega arith))
 
       allowed : {a : Bool} → a ≡ ruleAllows (parentRule kind) (lineOf above) → a ≡ parentAllowed (nodes table pool) r parent (parentRule kind)
       allowed f =

@@ -1,4 +1,4 @@
--- What the array holds that grows with the pass over the rows: the last element under each row.
+-- What the array holds that grows with the pass over the rows: the last element under each document.
 use Prim.Native.Nat.{ℕ, zero, suc, _≤_, _<_}
 use mathlib.Core.Path.{_≡_}
 use mathlib.Core.Logic.{_⊎_}
@@ -6,7 +6,7 @@ use mathlib.Core.Bool.{Bool, false, cond, _&&_, _||_}
 use mathlib.Core.List.{List}
 use lib.Dec.{eqb}
 use lib.ListN.{length, getD}
-use Rattle.rules.specs.Table.{MOST-ROWS, NONE, TYPE, PARENT, word, rowCount}
+use Rattle.rules.specs.Table.{MOST-ROWS, NONE, TYPE, PARENT, DOCUMENT, word, rowCount}
 
 -- the last number below r that passes the test; NONE: none does
 unfoldable pub lastBefore : (ℕ → Bool) → ℕ → ℕ
@@ -22,11 +22,11 @@ anyBefore test (suc r) = test r || anyBefore test r
 unfoldable pub under : (ℕ → Bool) → List ℕ → ℕ → ℕ → Bool
 under kind table p j = kind (word table j TYPE) && eqb (word table j PARENT) p
 
--- The array holds for each row of the table the last row of this kind under it, of those before row r.
+-- The array holds for each document of the table the last row of this kind under it, of those before row r.
 pub record Latest (kind : ℕ → Bool) (table latest : List ℕ) (r : ℕ) : Type 0 where
   pub few : rowCount table ≤ MOST-ROWS
   pub size : length latest ≡ MOST-ROWS
-  pub holds : (p : ℕ) → p < rowCount table → getD latest p 0 ≡ lastBefore (under kind table p) r
+  pub holds : (p : ℕ) → p < rowCount table → word table p TYPE ≡ DOCUMENT → getD latest p 0 ≡ lastBefore (under kind table p) r
 
 -- The parent of row r is NONE or an earlier row.
 abbrev pub ParentBefore : List ℕ → ℕ → Type 0

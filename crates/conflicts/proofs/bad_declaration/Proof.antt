@@ -20,16 +20,16 @@ returns c =
 name-requires : tie.Need-name-requires
 name-requires c κs = search needs
 
-kind-requires-2 : tie.Need-kind-requires-2
-kind-requires-2 c κs =
+name-kind-requires : tie.Need-name-kind-requires
+name-kind-requires c κs =
     let s = c .before .before .before .before .before .before in
     rw (c .name .ensures) (s .pre .1 .local)
 
 name-requires-2 : tie.Need-name-requires-2
 name-requires-2 c κs = search needs
 
-kind-requires-3 : tie.Need-kind-requires-3
-kind-requires-3 c κs =
+name-kind-requires-2 : tie.Need-name-kind-requires-2
+name-kind-requires-2 c κs =
     let s = c .before .before .before .before .before .before .before .before in
     rw (c .name2 .ensures) (s .pre .1 .value)
 
@@ -49,8 +49,8 @@ returns-2 c =
     let row = nodeAt (now (s .args .table)) pool (s .args .row .0) in
     let is = sym (k .kind .ensures) ∙ i .if1 .left in
     c .bad .ensures row is
-    (l .kind2 .ensures pool (row .local .bytes) g (rw (m .name .ensures) (n .local)))
-    (v .kind3 .ensures pool (row .value .bytes) g (rw (w .name2 .ensures) (declared-value row is (n .value))))
+    (l .name-kind .ensures pool (row .local .bytes) g (rw (m .name .ensures) (n .local)))
+    (v .name-kind2 .ensures pool (row .value .bytes) g (rw (w .name2 .ensures) (declared-value row is (n .value))))
 
 pub bad-declaration-spec : {M : Type 1} → statement M
 bad-declaration-spec =
@@ -59,8 +59,8 @@ bad-declaration-spec =
     kind-requires
     returns
     name-requires
-    kind-requires-2
+    name-kind-requires
     name-requires-2
-    kind-requires-3
+    name-kind-requires-2
     bad-requires
     returns-2)

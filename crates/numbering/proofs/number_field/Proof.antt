@@ -35,8 +35,8 @@ recall-requires c κs =
 set-name-requires-2 : tie.Need-set-name-requires-2
 set-name-requires-2 c κs = search needs
 
-kind-requires : tie.Need-kind-requires
-kind-requires c κs =
+name-kind-requires : tie.Need-name-kind-requires
+name-kind-requires c κs =
     let r = c .before .before .before .before .before .before .before in
     let s = c .before .before .before .before .before .before .before .before .before .before .before .before .before .before .before .before in
     has-words (s .pre .1 .1 .0) (r .recall .result .0) (r .recall .ensures (now (s .args .pool)) (s .pre .1 .1 .0) (c .before .before .before .before .before .if2 .taken))
@@ -55,7 +55,7 @@ returns-2 c =
     let s = c .before .before .before .before .before .before .before .before .before .before .before .before .before .before .before .before .before in
     let g = s .pre .1 .1 .0 in
     let interned = rw (p .ensures) at (recalled g (p .result .offset .0) (p .result .length) (r .recall .result .0) (r .recall .ensures (now (s .args .pool)) g (c .before .before .before .before .before .before .if2 .taken))) in
-    (field-numbered (now (s .args .notes)) (s .args .row .0) (s .args .k) (s .pre .1 .1 .1 .1 .1) (w .set-name2 .ensures) g interned, c .kind .ensures (now (s .args .pool)) _ g (interned .denotes))
+    (field-numbered (now (s .args .notes)) (s .args .row .0) (s .args .k) (s .pre .1 .1 .1 .1 .1) (w .set-name2 .ensures) g interned, c .name-kind .ensures (now (s .args .pool)) _ g (interned .denotes))
 
 number-new-requires : tie.Need-number-new-requires
 number-new-requires c κs = search needs
@@ -79,7 +79,7 @@ number-field-spec =
     returns
     recall-requires
     set-name-requires-2
-    kind-requires
+    name-kind-requires
     same-length-2
     same-length-3
     returns-2

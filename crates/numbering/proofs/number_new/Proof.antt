@@ -18,8 +18,8 @@ number-of-requires c κs =
 set-name-requires : tie.Need-set-name-requires
 set-name-requires c κs = search needs
 
-kind-requires : tie.Need-kind-requires
-kind-requires c κs =
+name-kind-requires : tie.Need-name-kind-requires
+name-kind-requires c κs =
     let n = c .before .before .before .before .before .before .before in
     has-words (n .number-of .ensures .0) (n .number-of .result .0) (n .number-of .ensures .1 .denotes)
 
@@ -37,7 +37,7 @@ returns c =
     let s = c .before .before .before .before .before .before .before .before .before .before .before .before .before .before .before in
     let interned = rw (p .place .ensures) at (n .number-of .ensures .1) in (
       field-numbered (now (s .args .notes)) (s .args .row .0) (s .args .k) (s .pre .1 .1 .1 .1 .1) (w .set-name .ensures) (n .number-of .ensures .0) interned,
-      c .kind .ensures (now (s .args .pool)) _ (n .number-of .ensures .0) (interned .denotes),
+      c .name-kind .ensures (now (s .args .pool)) _ (n .number-of .ensures .0) (interned .denotes),
     )
 
 pub number-new-spec : {M : Type 1} → statement M
@@ -47,7 +47,7 @@ number-new-spec =
     place-requires
     number-of-requires
     set-name-requires
-    kind-requires
+    name-kind-requires
     same-length
     same-length-2
     returns)

@@ -1,6 +1,7 @@
 -- `check` meets its contract.
 -- Assumes nothing.
-use mathlib.Core.Path.{_∙_}
+use mathlib.Core.Path.{ap, _∙_}
+use mathlib.Core.Bool.{not}
 use denote.Ref.{now}
 use Rattle.rules.specs.Table.{nodeAt}
 use Rattle.row_names.proofs.Good.{good-refused, good-passed}
@@ -14,32 +15,27 @@ kind-requires c κs = search needs
 is-plain-requires : tie.Need-is-plain-requires
 is-plain-requires c κs = search needs
 
-bad-value-requires : tie.Need-bad-value-requires
-bad-value-requires c κs = search needs
-
 malformed-requires : tie.Need-malformed-requires
 malformed-requires c κs = search needs
 
 returns : tie.Need-returns
 returns c =
     let i = c .before in
-    let v = i .before in
-    let j = v .before in
+    let j = i .before in
     let p = j .before in
     let k = p .before in
     let s = k .before .before .before in
     let n = nodeAt (now (s .args .table)) (now (s .args .pool)) (s .args .row .0) in
-    c .malformed .ensures ∙ good-refused (s .args .row .0) n (p .is-plain .ensures n (k .kind .ensures) (s .pre .1 .1) (j .if1 .taken)) (v .bad-value .ensures) (i .if2 .taken)
+    c .malformed .ensures ∙ good-refused (s .args .row .0) n (p .is-plain .ensures n (k .kind .ensures) (s .pre .1 .1) (j .if1 .taken)) (ap not (s .pre .1 .0)) (i .if2 .taken)
 
 returns-2 : tie.Need-returns-2
 returns-2 c =
-    let v = c .before in
-    let j = v .before in
+    let j = c .before in
     let p = j .before in
     let k = p .before in
     let s = k .before .before .before in
     let n = nodeAt (now (s .args .table)) (now (s .args .pool)) (s .args .row .0) in
-    good-passed (s .args .row .0) n (p .is-plain .ensures n (k .kind .ensures) (s .pre .1 .1) (j .if1 .taken)) (v .bad-value .ensures) (c .if2 .left)
+    good-passed (s .args .row .0) n (p .is-plain .ensures n (k .kind .ensures) (s .pre .1 .1) (j .if1 .taken)) (ap not (s .pre .1 .0)) (c .if2 .left)
 
 check-each-requires : tie.Need-check-each-requires
 check-each-requires c κs = search needs
@@ -53,7 +49,6 @@ check-spec =
     (tie.spec
     kind-requires
     is-plain-requires
-    bad-value-requires
     malformed-requires
     returns
     returns-2

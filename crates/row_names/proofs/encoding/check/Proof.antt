@@ -1,7 +1,7 @@
 -- `encoding::check` meets its contract.
 -- Assumes nothing.
-use mathlib.Core.Path.{_≡_, _∙_}
-use mathlib.Core.Bool.{true}
+use mathlib.Core.Path.{_≡_, ap, _∙_}
+use mathlib.Core.Bool.{true, not}
 use denote.Ref.{now}
 use Rattle.rules.specs.Table.{Node, nodeAt}
 use Rattle.rules.specs.Utf8.{wellFormed}
@@ -62,30 +62,25 @@ returns-3 c =
     let s = start e1 in
     c .malformed3 .ensures ∙ encoding-uri (s .args .row .0) (node s) (prefix e1) (local e2) (is-malformed (node s .uri .bytes) (kind-uri (node s) (s .pre .1 .1)) (i .if3 .taken))
 
-bad-value-requires : tie.Need-bad-value-requires
-bad-value-requires c κs = search needs
-
 malformed-requires-4 : tie.Need-malformed-requires-4
 malformed-requires-4 c κs = search needs
 
 returns-4 : tie.Need-returns-4
 returns-4 c =
     let i = c .before in
-    let v = i .before in
-    let e3 = v .before in
+    let e3 = i .before in
     let e2 = at2 e3 in
     let e1 = at1 e2 in
     let s = start e1 in
-    c .malformed4 .ensures ∙ encoding-value (s .args .row .0) (node s) (prefix e1) (local e2) (uri e3) (v .bad-value .ensures) (i .if4 .taken)
+    c .malformed4 .ensures ∙ encoding-value (s .args .row .0) (node s) (prefix e1) (local e2) (uri e3) (ap not (s .pre .1 .0)) (i .if4 .taken)
 
 returns-5 : tie.Need-returns-5
 returns-5 c =
-    let v = c .before in
-    let e3 = v .before in
+    let e3 = c .before in
     let e2 = at2 e3 in
     let e1 = at1 e2 in
     let s = start e1 in
-    encoding-passed (s .args .row .0) (node s) (prefix e1) (local e2) (uri e3) (v .bad-value .ensures) (c .if4 .left)
+    encoding-passed (s .args .row .0) (node s) (prefix e1) (local e2) (uri e3) (ap not (s .pre .1 .0)) (c .if4 .left)
 
 pub check-spec : {M : Type 1} → statement M
 check-spec =
@@ -97,7 +92,6 @@ check-spec =
     returns-2
     malformed-requires-3
     returns-3
-    bad-value-requires
     malformed-requires-4
     returns-4
     returns-5)
