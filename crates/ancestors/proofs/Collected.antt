@@ -13,7 +13,7 @@ use Rattle.rules.specs.Table.{TYPE, PARENT, ENTITY-REFERENCE, Node, nodes, node
 use Rattle.rules.specs.Lookups.{elementsFrom}
 use Rattle.rules.proofs.Lists.{by-cases, both-true}
 use Rattle.rows.proofs.Words.{type-word, parent-word}
-use Rattle.ancestors.specs.Paths.{pathWith}
+use Rattle.ancestors.specs.Paths.{pathWith, Stepped}
 use Rattle.ancestors.proofs.Elements.{above, elements-element, elements-reference, elements-other, above-falls, above-none}
 
 -- What is written where the row is an element, and where it is not.
@@ -138,3 +138,24 @@ module _ (table pool path : List ℕ) (r count kind parent : ℕ) (within : r < 
         let stays : ltb parent r ≡ false = rw (is, reference) at ends in
         rw (counted, stored, is) (reference-top (eqb-true kind ENTITY-REFERENCE reference) (ltb-false parent r stays)))
         (λ none. rw (counted, stored, is) (other is (eqb-false kind ENTITY-REFERENCE none))))
+
+-- A step from row r: it goes on, the path is full, or it ends.
+module _
+    (table path : List ℕ) (r count kind parent : ℕ) (within : r < rowCount table) (type : kind ≡ word table r TYPE) (up : parent ≡ word table r PARENT) (room : count < length path)
+    (taken : ℕ) (after : List ℕ) (counted : taken ≡ cond (isElement kind) (count + 1) count) (stored : after ≡ cond (isElement kind) (set path count r) path)
+  where
+    fits : taken ≤ length after
+    fits = entered-room path kind r count taken after counted stored room
+
+    pub step-on : (isElement kind || eqb kind ENTITY-REFERENCE) && ltb parent r ≡ true → taken < length after → Stepped table path r count after parent taken
+    step-on goes left =
+        let falls = out-falls kind r parent goes in
+        record { room = fits; onward = λ _. (left, λ pool. onward table pool path r count kind parent within type up room taken after counted stored goes); ended = λ stays. absurd (omega arith) }
+
+    pub step-full : length after ≤ taken → Stepped table path r count after r taken
+    step-full past =
+        record { room = fits; onward = λ falls. absurd (omega arith); ended = λ _ pool. full table pool path r count kind parent within type up room taken after counted stored past }
+
+    pub step-end : (isElement kind || eqb kind ENTITY-REFERENCE) && ltb parent r ≡ false → Stepped table path r count after r taken
+    step-end ends =
+        record { room = fits; onward = λ falls. absurd (omega arith); ended = λ _ pool. ended table pool path r count kind parent within type up room taken after counted stored ends }

@@ -9,7 +9,7 @@ ghost use lib.Dec.{eqb, ltb};
 ghost use Rattle.rules.specs.Table.{NONE, TYPE, PARENT, ENTITY-REFERENCE, nodes, rowCount, word, isElement};
 ghost use Rattle.rules.specs.Lookups.{elementsFrom, ancestorElement, elementChild, startElement, lookupElements};
 ghost use Rattle.rows.specs.Reading.{rowOr};
-ghost use Rattle.ancestors.specs.Paths.{PathOf, pathWith};
+ghost use Rattle.ancestors.specs.Paths.{PathOf, pathWith, Stepped};
 use rules::Row;
 
 // The elements that a lookup from the row goes through: its start element and outward. Answers how
@@ -87,21 +87,46 @@ fn is_element_child(table: &[u32], child: Row, row: Row) -> bool
 }
 
 // Writes the row, if it is an element, and the elements outward from it behind the first places of the
-// path, as many as it has room for. Answers how many places are taken then.
+// path, as many as it has room for. Answers how many places are taken then. A call makes two steps, so
+// that a climb takes half the stack that it would with one.
 fn collect(table: &[u32], row: Row, path: &mut [u32], count: usize) -> usize
     requires { ⌜ (row .0 < rowCount (now table)) × (count < length (now path)) ⌝ }
     ensures { λ r. ⌜ r ≤ length (now (path .exit)) ⌝ }
     ensures { λ r. ⌜ ((pool : List ℕ) → take r (now (path .exit)) ≡ pathWith (now (path .entry)) count (elementsFrom (nodes (now (table .entry)) pool) (row .0))) ⌝ }
+{
+    let first = step(table, row, path, count);
+    if first.row.0 < row.0 {
+        let second = step(table, first.row, path, first.taken);
+        if second.row.0 < first.row.0 {
+            return collect(table, second.row, path, second.taken);
+        }
+        return second.taken;
+    }
+    first.taken
+}
+
+// Where a climb stands after a step: at the row that it goes on to, or at the same one where it ends; and
+// how many places of the path are taken.
+struct Reached {
+    row: Row,
+    taken: usize,
+}
+
+// Writes the row, if it is an element, and goes on to its parent, if it leads there and the path has a
+// place left.
+fn step(table: &[u32], row: Row, path: &mut [u32], count: usize) -> Reached
+    requires { ⌜ (row .0 < rowCount (now table)) × (count < length (now path)) ⌝ }
+    ensures { λ r. ⌜ Stepped (now (table .entry)) (now (path .entry)) (row .0) count (now (path .exit)) (r .row .0) (r .taken) ⌝ }
 {
     let kind = rows::kind(table, row);
     let parent = rows::parent(table, row);
     let taken = enter(kind, row, path, count);
     if leads_out(kind, row, parent) {
         if taken < path.len() {
-            return collect(table, parent, path, taken);
+            return Reached { row: parent, taken };
         }
     }
-    taken
+    Reached { row, taken }
 }
 
 // Writes the row to the next place of the path, if it is an element.

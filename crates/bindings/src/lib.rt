@@ -1,13 +1,13 @@
 // What the path of scopes says of a row, by the numbers of its names.
 ghost use mathlib.Core.Path.{_≡_};
 ghost use mathlib.Core.List.{List};
-ghost use Prim.Native.Nat.{ℕ, _+_, _*_, _≤_};
+ghost use Prim.Native.Nat.{ℕ, _*_, _≤_};
 ghost use lib.ListN.{length};
 ghost use Rattle.rules.specs.Table.{rowCount};
 ghost use Rattle.notes.specs.Notes.{NOTES};
-ghost use Rattle.stacks.specs.Stacks.{TOPS, PATH, NUMBERED, underAt, valueAt};
+ghost use Rattle.stacks.specs.Stacks.{valueAt};
 ghost use Rattle.bindings.specs.Spelled.{numberAt};
-ghost use Rattle.bindings.specs.Asking.{topOf, elementSettled, attributeSettled, Asked, ownTop, isUsed, Searched, LeastUnused};
+ghost use Rattle.bindings.specs.Asking.{topOf, elementSettled, attributeSettled, Asked, ownTop};
 use rules::NameId;
 use rules::Position;
 use rules::Row;
@@ -54,30 +54,6 @@ pub fn own_declaration(table: &[u32], notes: &[u16], tops: &[u16], element: Row)
         return top;
     }
     Position(0)
-}
-
-// The least number from another on whose NS prefix is not declared in scope.
-pub fn least_unused(tops: &[u16], path: &[u16], from: u16) -> u16
-    requires { ⌜ ((last : ℕ) × Searched (now tops) (now path) from last) ⌝ }
-    ensures { λ r. ⌜ LeastUnused (now (tops .entry)) (now (path .entry)) from r ⌝ }
-{
-    let mut k = from;
-    while is_used(tops, path, k) {
-        k += 1;
-    }
-    k
-}
-
-// The NS prefix of a number is declared in scope.
-fn is_used(tops: &[u16], path: &[u16], k: u16) -> bool
-    requires { ⌜ (PATH * k + PATH ≤ length (now path)) × (TOPS * underAt (now path) NUMBERED k + TOPS ≤ length (now tops)) ⌝ }
-    ensures { λ r. ⌜ r ≡ isUsed (now (tops .entry)) (now (path .entry)) k ⌝ }
-{
-    let number = stacks::numbered(path, k);
-    if number.0 == 0 {
-        return false;
-    }
-    stacks::nearest(tops, number).0 != 0
 }
 
 // The number of a declaration's value; 0 where there is no declaration.

@@ -23,7 +23,7 @@ use Rattle.rules.proofs.Table.{no-row}
 use Rattle.rules.proofs.Refusals.{all-none}
 use Rattle.rules.proofs.Accepted.{Accepted, FieldAccepted, FieldsAccepted, fields-accepted, unrefused}
 use Rattle.pool.specs.Parts.{StandsAt}
-use Rattle.outward.specs.Deciding.{Ordinary}
+use Rattle.deciders.specs.Deciding.{Ordinary}
 use Rattle.outward.proofs.Left.{uriLookup, prefixLookup}
 use Rattle.outward.proofs.Every.{answers-good}
 

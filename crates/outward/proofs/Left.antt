@@ -17,7 +17,7 @@ use Rattle.rows.specs.Reading.{found}
 use Rattle.ancestors.specs.Paths.{Element}
 use Rattle.declarations.specs.Along.{Along}
 use Rattle.declarations.proofs.Rows.{found-some, found-none}
-use Rattle.outward.specs.Deciding.{Ordinary}
+use Rattle.deciders.specs.Deciding.{Ordinary}
 
 -- The declaration's answer, or what comes further outward.
 abbrev pub declaredOr : {A : Type 0} → (Node → A) → A → Option Node → A

@@ -1,7 +1,4 @@
--- Left: what is left of a path gives the answer. Decided: the URI that a row decides. Tests: what the code asks of a row. Every: what
--- holds of every answer. Shadowed: a shadowed prefix is never answered.
+-- Left: what is left of a path gives the answer. Every: what holds of every answer. Shadowed: a shadowed prefix is never answered.
 pub mod Left
-pub mod Decided
-pub mod Tests
 pub mod Every
 pub mod Shadowed

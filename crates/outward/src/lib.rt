@@ -2,15 +2,13 @@
 // the URI of a prefix. Names are asked for by their numbers.
 ghost use mathlib.Core.Path.{_≡_};
 ghost use mathlib.Core.List.{List};
-ghost use Prim.Native.Nat.{ℕ, _*_, _≤_, _<_};
-ghost use lib.ListN.{length};
-ghost use Rattle.rules.specs.Table.{nodes, nodeAt, rowCount};
-ghost use Rattle.rules.specs.Lookups.{namesUri, uriOfPrefix, bound};
-ghost use Rattle.notes.specs.Notes.{NOTES};
+ghost use Prim.Native.Nat.{ℕ};
+ghost use Rattle.rules.specs.Table.{nodes};
+ghost use Rattle.rules.specs.Lookups.{uriOfPrefix, bound};
 ghost use Rattle.rows.specs.Reading.{found};
 ghost use Rattle.declarations.specs.Along.{Along};
 ghost use Rattle.declarations.specs.Meant.{Meant};
-ghost use Rattle.outward.specs.Deciding.{Started, Ordinary, decided, decidedNumber};
+ghost use Rattle.deciders.specs.Deciding.{Started, Ordinary, decided};
 use rules::Bound;
 use rules::NameId;
 use rules::Row;
@@ -33,7 +31,7 @@ pub fn uri_of_prefix(
         return Bound::Xmlns;
     }
     let row = deciding(table, notes, path, number);
-    if uri_number(table, notes, row).0 == 0 {
+    if deciders::uri_number(table, notes, row).0 == 0 {
         return Bound::Nothing;
     }
     if rows::kind(table, row) == rules::DECLARATION {
@@ -51,7 +49,7 @@ pub fn deciding(table: &[u32], notes: &[u16], path: &[u32], prefix: NameId) -> R
     let mut left = path;
     while left.len() > 0 {
         let element = rows::row_at(left, 0);
-        let named = names_uri(table, notes, element, NameId(wanted));
+        let named = deciders::names_uri(table, notes, element, NameId(wanted));
         let own = declarations::own(table, notes, element, NameId(wanted));
         let declared = rows::has_row(table, own);
         if named {
@@ -63,28 +61,4 @@ pub fn deciding(table: &[u32], notes: &[u16], path: &[u32], prefix: NameId) -> R
         left = &left[1..];
     }
     Row(rules::NONE)
-}
-
-// The number of the URI that a row decides; that of the empty one, if the row is missing.
-pub fn uri_number(table: &[u32], notes: &[u16], row: Row) -> NameId
-    requires { ⌜ NOTES * rowCount (now table) ≤ length (now notes) ⌝ }
-    ensures { λ r. ⌜ r .0 ≡ decidedNumber (now (table .entry)) (now (notes .entry)) (row .0) ⌝ }
-{
-    if rows::has_row(table, row) {
-        if rows::kind(table, row) == rules::DECLARATION {
-            return notes::name(notes, row, notes::VALUE);
-        }
-        return notes::name(notes, row, notes::URI);
-    }
-    NameId(0) // nothing equals empty
-}
-
-// The element's own name answers for the prefix.
-fn names_uri(table: &[u32], notes: &[u16], element: Row, prefix: NameId) -> bool
-    requires { ⌜ (element .0 < rowCount (now table)) × (NOTES * rowCount (now table) ≤ length (now notes)) ⌝ }
-    ensures { λ r. ⌜ ((pool name : List ℕ) → Meant (now (table .entry)) pool (now (notes .entry)) (prefix .0) name → r ≡ namesUri name (nodeAt (now (table .entry)) pool (element .0))) ⌝ }
-{
-    (rows::kind(table, element) == rules::ELEMENT)
-        & (notes::name(notes, element, notes::URI).0 != 0)
-        & (notes::name(notes, element, notes::PREFIX).0 == prefix.0)
 }

@@ -10,7 +10,7 @@ ghost use Rattle.rules.specs.Lookups.{ownDeclarations, leadsTo, namesPrefix, gi
 ghost use Rattle.rows.specs.Reading.{found};
 ghost use Rattle.ancestors.specs.Paths.{Element};
 ghost use Rattle.declarations.specs.Meant.{Meant};
-ghost use Rattle.outward.specs.Deciding.{Started, Together};
+ghost use Rattle.deciders.specs.Deciding.{Started, Together};
 use rules::Bound;
 use rules::NameId;
 use rules::Position;
@@ -132,5 +132,5 @@ fn leads_to(
     if xml {
         return true;
     }
-    outward::uri_number(table, notes, outward::deciding(table, notes, path, prefix)).0 == uri.0
+    deciders::uri_number(table, notes, outward::deciding(table, notes, path, prefix)).0 == uri.0
 }

@@ -13,8 +13,8 @@ use Rattle.declarations.specs.Along.{Along}
 use Rattle.declarations.specs.Meant.{Meant}
 use Rattle.declarations.proofs.Rows.{found-none}
 use Rattle.declarations.proofs.Path.{own-declaration}
-use Rattle.outward.specs.Deciding.{Ordinary, decided}
-use Rattle.outward.proofs.Decided.{declared-decides, named-decides}
+use Rattle.deciders.specs.Deciding.{Ordinary, decided}
+use Rattle.deciders.proofs.Decided.{declared-decides, named-decides}
 use Rattle.outward.proofs.Left.{Left, left-first, left-element, along-next, left-own, left-declared, left-next, left-end, uriLookup}
 use Rattle.outward.proofs.deciding.Statement.{statement}
 use Rattle.outward.proofs.deciding.Tie as tie

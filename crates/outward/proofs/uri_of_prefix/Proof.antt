@@ -4,7 +4,7 @@ use native.Mathlib.Omega.{arith}
 use mathlib.Core.Path.{sym, ap, _∙_}
 use borrow.Author.Needs.{needs}
 use Rattle.rules.specs.Lookups.{bound}
-use Rattle.outward.proofs.Decided.{number-within, decided-none, decided-value, decided-uri, uri-xml, uri-xmlns}
+use Rattle.deciders.proofs.Decided.{number-within, decided-none, decided-value, decided-uri, uri-xml, uri-xmlns}
 use Rattle.outward.proofs.uri_of_prefix.Statement.{statement}
 use Rattle.outward.proofs.uri_of_prefix.Tie as tie
 

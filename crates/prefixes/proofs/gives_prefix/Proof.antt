@@ -3,7 +3,7 @@
 use native.Mathlib.Omega.{arith}
 use mathlib.Core.Path.{_∙_}
 use Rattle.declarations.proofs.Meanings.{local-names, meant-too}
-use Rattle.outward.proofs.Tests.{gives-by, gives-together, gives-other}
+use Rattle.deciders.proofs.Tests.{gives-by, gives-together, gives-other}
 use Rattle.prefixes.proofs.gives_prefix.Statement.{statement}
 use Rattle.prefixes.proofs.gives_prefix.Tie as tie
 

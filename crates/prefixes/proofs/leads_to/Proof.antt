@@ -1,6 +1,6 @@
 -- `prefixes::leads_to` meets its contract.
 -- Assumes nothing.
-use Rattle.outward.proofs.Decided.{leads-default, leads-xml, leads-full, ordinary}
+use Rattle.deciders.proofs.Decided.{leads-default, leads-xml, leads-full, ordinary}
 use Rattle.prefixes.proofs.leads_to.Statement.{statement}
 use Rattle.prefixes.proofs.leads_to.Tie as tie
 

@@ -3,7 +3,7 @@
 use native.Mathlib.Omega.{arith}
 use mathlib.Core.Path.{_∙_}
 use Rattle.declarations.proofs.Meanings.{prefix-names, meant-too}
-use Rattle.outward.proofs.Tests.{names-prefix-by, names-together, names-prefix-other}
+use Rattle.deciders.proofs.Tests.{names-prefix-by, names-together, names-prefix-other}
 use Rattle.prefixes.proofs.names_prefix.Statement.{statement}
 use Rattle.prefixes.proofs.names_prefix.Tie as tie
 

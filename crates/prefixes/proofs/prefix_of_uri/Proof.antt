@@ -12,7 +12,7 @@ use Rattle.rules.specs.Lookups.{orUnbound, bound}
 use Rattle.rules.specs.declared.Bound.{Bound}
 use Rattle.declarations.specs.Along.{Along}
 use Rattle.declarations.specs.Meant.{Meant}
-use Rattle.outward.proofs.Tests.{prefix-empty, prefix-asked}
+use Rattle.deciders.proofs.Tests.{prefix-empty, prefix-asked}
 use Rattle.outward.proofs.Left.{Left, left-first, left-element, along-next, left-own, left-declared, left-next, left-end, prefixLookup}
 use Rattle.prefixes.proofs.prefix_of_uri.Statement.{statement}
 use Rattle.prefixes.proofs.prefix_of_uri.Tie as tie

@@ -2,7 +2,7 @@
 -- Assumes nothing.
 use borrow.Author.Needs.{needs}
 use Rattle.rules.specs.Table.{MOST-ROWS}
-use Rattle.resolver.proofs.Going.{notes-lent, way}
+use Rattle.questions.proofs.Going.{notes-lent, way}
 use Rattle.resolver.proofs.lookup.Statement.{statement}
 use Rattle.resolver.proofs.lookup.Tie as tie
 

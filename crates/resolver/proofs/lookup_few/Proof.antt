@@ -2,7 +2,7 @@
 -- Assumes nothing.
 use borrow.Author.Needs.{needs}
 use Rattle.checker.specs.Lent.{FEW-ROWS}
-use Rattle.resolver.proofs.Going.{notes-lent, way}
+use Rattle.questions.proofs.Going.{notes-lent, way}
 use Rattle.resolver.proofs.lookup_few.Statement.{statement}
 use Rattle.resolver.proofs.lookup_few.Tie as tie
 
