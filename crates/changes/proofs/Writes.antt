@@ -2,21 +2,17 @@
 -- Assumes nothing.
 use Prim.Native.Nat.{ℕ, _+_, _*_, _≤_, _<_}
 use mathlib.Core.Path.{_≡_, refl, sym, _∙_, ap, ap₂}
-use mathlib.Core.Bool.{_&&_, not}
 use mathlib.Core.List.{List, [], _∷_}
 use native.Mathlib.Omega.{arith}
-use lib.ListN.{length, take, set}
+use lib.ListN.{length, take}
 use lib.Seq.{length-take-le}
-use lib.Dec.{eqb}
-use borrow.Author.Tests.{eq-eqb, ne-eqb}
 use Rattle.rules.specs.Table as Table
 use Rattle.rules.specs.Table.{WIDTH, xmlPrefix, rowCount}
 use Rattle.rules.specs.Normalization.{numberedPrefix}
 use Rattle.rules.specs.declared.Place.{Place}
 use Rattle.buffers.specs.Writes.{written, placed, declarationWords}
 use Rattle.notes.specs.Notes.{PREFIX, LOCAL-NAME, URI, VALUE, noteAt, noted}
-use Rattle.stacks.specs.Stacks.{NUMBERED, PREFIXES, topAt, underAt}
-use Rattle.changes.specs.Changes.{notedFor, Named, isFree, numberFor, pathFor}
+use Rattle.changes.specs.Changes.{notedFor, Named}
 
 -- The part of a buffer that counts.
 pub count-part : (t : List ℕ) (k : ℕ) → k ≤ length t → k ≡ length (take k t)
@@ -61,13 +57,3 @@ named-numbered table pool notes a bytes x k sized held made noted-number =
       numbered = noted-number;
       size = ap (λ (l : ℕ). bytes + l) sized;
     }
-
-module _ (path : List ℕ) (k names : ℕ) {n : ℕ} (read : n ≡ underAt path NUMBERED k) where
-  pub number-there : 0 < n → (n ≡ numberFor path k names) × (path ≡ pathFor path k names)
-  number-there some? = let other = ne-eqb (underAt path NUMBERED k) 0 (λ z. omega (arith, read)) in (read ∙ rw other refl, rw other refl)
-
-  pub number-next : n ≤ 0 → {path′ : List ℕ} → path′ ≡ set path (4 * k + NUMBERED) (names + 1) → (names + 1 ≡ numberFor path k names) × (path′ ≡ pathFor path k names)
-  number-next none? made = let same = eq-eqb (underAt path NUMBERED k) 0 (omega (arith, read)) in (rw same refl, made ∙ rw same refl)
-
-pub free-read : (notes tops : List ℕ) (a : ℕ) {p t : ℕ} → p ≡ noteAt notes a PREFIX → t ≡ topAt tops PREFIXES p → (not (eqb p 0) && eqb t 0) ≡ isFree notes tops a
-free-read notes tops a read top = rw (top, read) refl

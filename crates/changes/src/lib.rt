@@ -1,7 +1,6 @@
 // The writes of normalization: a row's words in the table and its numbers in the notes.
 ghost use mathlib.Core.Path.{_≡_};
-ghost use mathlib.Core.List.{List};
-ghost use Prim.Native.Nat.{ℕ, _+_, _*_, _≤_, _<_};
+ghost use Prim.Native.Nat.{_+_, _*_, _≤_, _<_};
 ghost use lib.ListN.{length, take};
 ghost use Rattle.rules.specs.Table.{WIDTH, MOST-ROWS, PREFIX, LOCAL-NAME, URI, VALUE, xmlPrefix};
 ghost use Rattle.rules.specs.Normalization.{numberedPrefix};
@@ -9,8 +8,7 @@ ghost use Rattle.rows.specs.Reading.{placeAt};
 ghost use Rattle.notes.specs.Notes as noting;
 ghost use Rattle.buffers.specs.Writes.{written, placed, declarationWords};
 ghost use Rattle.stacks.specs.Stacks.{PATH, NUMBERED, underAt};
-ghost use Rattle.bindings.specs.Asking.{Asked};
-ghost use Rattle.changes.specs.Changes.{notedFor, Named, isFree, numberFor, pathFor};
+ghost use Rattle.changes.specs.Changes.{notedFor, Named};
 use rules::NameId;
 use rules::Offset;
 use rules::Place;
@@ -126,27 +124,4 @@ pub fn take_numbered(
     buffers::set_place(table, attribute, rules::PREFIX, place);
     notes::set_name(notes, attribute, notes::PREFIX, number);
     bytes + length
-}
-
-// The number of the NS prefix of k; where it has none, the next one after those of so many names, which is noted.
-pub fn number_for(path: &mut [u16], k: u16, names: u16) -> NameId
-    requires { ⌜ (PATH * k + PATH ≤ length (now path)) × (names < 65535) ⌝ }
-    ensures { λ r. ⌜ r .0 ≡ numberFor (now (path .entry)) k names ⌝ }
-    ensures { λ _. ⌜ now (path .exit) ≡ pathFor (now (path .entry)) k names ⌝ }
-{
-    let number = stacks::numbered(path, k);
-    if number.0 > 0 {
-        return number;
-    }
-    stacks::set_numbered(path, k, NameId(names + 1));
-    NameId(names + 1)
-}
-
-// The attribute has a prefix, and that is not declared in scope.
-pub fn is_free(notes: &[u16], tops: &[u16], attribute: Row) -> bool
-    requires { ⌜ ((path : List ℕ) × Asked (now notes) (now tops) path (attribute .0)) ⌝ }
-    ensures { λ r. ⌜ r ≡ isFree (now (notes .entry)) (now (tops .entry)) (attribute .0) ⌝ }
-{
-    let prefix = notes::name(notes, attribute, notes::PREFIX);
-    (prefix.0 != 0) & (stacks::nearest(tops, prefix).0 == 0)
 }

@@ -5,20 +5,16 @@ ghost use Prim.Native.Nat.{_*_, _≤_};
 ghost use lib.ListN.{take};
 ghost use Rattle.rules.specs.Table.{WIDTH};
 ghost use Rattle.checker.specs.Lent.{FEW-ROWS, Lent as Numbering};
-ghost use Rattle.input.specs.Lent.{Enough, Blank, Prepared};
+ghost use Rattle.input.specs.Lent.{Blank};
 ghost use Rattle.normal_form.specs.Result.{RoomFor, Made};
 ghost use Rattle.normal_form.specs.Lent.{Topped};
 use input::Judged;
-use repair::Sizes;
-use rules::Checked;
 use rules::Filled;
 
 // The words and bytes that any result of a small table and its pool has room in.
 pub const FEW_WORDS: usize = rules::WIDTH * 2 * checker::FEW_ROWS;
 
-pub const FEW_BYTES: usize = 4096;
-
-pub const FEW_WORK: usize = FEW_BYTES + 6 * checker::FEW_ROWS;
+pub const FEW_WORK: usize = checker::FEW_BYTES + 6 * checker::FEW_ROWS;
 
 // Normalizes in place, in arrays for a small table.
 pub fn normalize_few(words: &mut [u32], work: &mut [u8], rows: usize, bytes: usize) -> Filled
@@ -88,42 +84,8 @@ fn normalize_lent(
         path,
     ) {
         Judged::Numbered(names) => {
-            normalize_accepted(words, work, notes, path, tops, rows, bytes, names)
+            made_in_place::normalize_accepted(words, work, notes, path, tops, rows, bytes, names)
         }
         Judged::Refused(why) => Filled::Refused(why),
-    }
-}
-
-// Normalizes an input in place that draws none of the refusals of an input.
-fn normalize_accepted(
-    words: &mut [u32],
-    work: &mut [u8],
-    notes: &mut [u16],
-    path: &mut [u16],
-    tops: &mut [u16],
-    rows: usize,
-    bytes: usize,
-    names: u16,
-) -> Filled
-    requires { ⌜ RoomFor (now words) (now work) rows bytes ⌝ }
-    requires { ⌜ Enough rows (now notes) (now path) ⌝ }
-    requires { ⌜ Topped rows (now tops) ⌝ }
-    requires { ⌜ Prepared (take (WIDTH * rows) (now words)) (take bytes (now work)) (now notes) (now path) names ⌝ }
-    ensures { λ r. ⌜ Made r (now (words .exit)) (now (work .exit)) (take (WIDTH * rows) (now (words .entry))) (take bytes (now (work .entry))) ⌝ }
-{
-    let sizes = Sizes {
-        rows,
-        bytes,
-        names,
-        free: 1,
-        limit: rules::MOST_ROWS,
-    };
-    let made = normal_form::make_result(words, work, notes, path, tops, sizes);
-    match outputs::room(made.rows, made.bytes, rules::MOST_ROWS, rules::MOST_BYTES) {
-        Checked::Accepted => Filled::Done {
-            rows: made.rows,
-            bytes: made.bytes,
-        },
-        Checked::Refused(why) => Filled::Refused(why),
     }
 }

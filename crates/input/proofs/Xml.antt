@@ -18,8 +18,8 @@ use Rattle.rules.proofs.Prefixes.{numbered-not-xml}
 use Rattle.numbers.specs.Numbers.{Names, numberIn}
 use Rattle.numbers.specs.Noted.{NodeNumbered, Numbered}
 use Rattle.stacks.specs.Stacks.{NUMBERED, underAt}
-use Rattle.repair.specs.Working.{Numbers}
-use Rattle.repair.proofs.Changed.{spell, spelled-next, names-new, number-other, rows-next}
+use Rattle.working.specs.Working.{Numbers}
+use Rattle.working.proofs.Changed.{spell, spelled-next, names-new, number-other, rows-next}
 
 -- The number of xml: one of the given numbers, or the next one.
 module _ (table pool notes path : List ℕ) (spelling : ℕ → List ℕ) (last limit : ℕ) (given : Numbered table pool notes spelling last (rowCount table))

@@ -9,7 +9,7 @@ use Rattle.notes.specs.Notes.{NOTES, LATEST, noteAt}
 use Rattle.numbers.specs.Noted.{Numbered}
 use Rattle.dictionary.specs.Dictionary.{lastOf, spelling}
 use Rattle.stacks.specs.Stacks.{BELOW, underAt}
-use Rattle.repair.specs.Working.{Numbers}
+use Rattle.working.specs.Working.{Numbers}
 use Rattle.input.specs.Input.{inputRefusal}
 
 -- There is room for the rows of any result, which has at most twice those of its input.

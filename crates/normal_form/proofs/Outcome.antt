@@ -22,7 +22,7 @@ use Rattle.rules.specs.declared.Filled.{Filled}
 use Rattle.rules.proofs.Lists.{by-cases}
 use Rattle.rules.proofs.Table.{length-words}
 use Rattle.rules.proofs.Bounds.{Limit, too-many-rows, not-too-many-rows, rows-refused, bytes-refused, normalized-success}
-use Rattle.elements.specs.Buffers.{Finished}
+use Rattle.element_steps.specs.Buffers.{Finished}
 use Rattle.outputs.specs.Ended.{roomLack, completed, ended}
 use Rattle.outputs.proofs.Ended.{Answers, enough-rows, ended-no-row-room, ended-no-byte-room, ended-completed, answer-done, answer-refused}
 use Rattle.input.specs.Input.{inputRefusal}

@@ -22,9 +22,9 @@ use Rattle.scopes.specs.Standing.{Linked}
 use Rattle.scopes.proofs.Changes.{standing-start, linked-changed}
 use Rattle.buffers.proofs.Meaning.{copied}
 use Rattle.checker.specs.Lent.{FEW-ROWS}
-use Rattle.repair.specs.Working.{Room, Spare, meant}
-use Rattle.repair.proofs.Changed.{numbers-relinked}
-use Rattle.elements.specs.Buffers.{Working, Finished}
+use Rattle.working.specs.Working.{Room, Spare, meant}
+use Rattle.working.proofs.Changed.{numbers-relinked}
+use Rattle.element_steps.specs.Buffers.{Working, Finished}
 use Rattle.elements.proofs.Start.{working-start}
 use Rattle.elements.proofs.Count.{rows-most}
 use Rattle.normal_form.specs.Result.{formOf}

@@ -6,7 +6,7 @@ ghost use Rattle.rules.specs.Normalization.{normalForm};
 ghost use Rattle.notes.specs.Notes.{NOTES, LATEST, noteAt, HasNotes};
 ghost use Rattle.scopes.specs.Standing.{Linked};
 ghost use Rattle.attributes.specs.Following.{LinkedFrom};
-ghost use Rattle.elements.specs.Buffers.{Finished};
+ghost use Rattle.element_steps.specs.Buffers.{Finished};
 ghost use Rattle.normal_form.specs.Result.{formOf};
 ghost use Rattle.normal_form.specs.Lent.{Ready, Lent};
 use repair::Sizes;

@@ -1,13 +1,7 @@
 // Namespace normalization into lent buffers.
 ghost use mathlib.Core.Path.{_≡_};
 ghost use lib.ListN.{length};
-ghost use Rattle.rules.specs.Table.{rowCount};
 ghost use Rattle.rules.specs.Normalization.{normalized};
-ghost use Rattle.checker.specs.Lent.{Lent as Numbering};
-ghost use Rattle.input.specs.Lent.{Enough, Blank, Prepared};
-ghost use Rattle.normal_form.specs.Lent.{Topped};
-use input::Judged;
-use repair::Sizes;
 use rules::Filled;
 
 // Namespace normalization of a table and its pool into an output table and an output pool: so that
@@ -24,7 +18,7 @@ pub fn normalize(table: &[u32], pool: &[u8], out_table: &mut [u32], out_pool: &m
         let mut notes = [0; input::SMALL_NOTES];
         let mut path = [0; input::SMALL_PATH];
         let mut tops = [0; normal_form::SMALL_TOPS];
-        return normalize_lent(
+        return normalization::normalize_lent(
             table,
             pool,
             out_table,
@@ -39,7 +33,7 @@ pub fn normalize(table: &[u32], pool: &[u8], out_table: &mut [u32], out_pool: &m
     let mut notes = [0; input::NOTES];
     let mut path = [0; input::PATH];
     let mut tops = [0; normal_form::TOPS];
-    normalize_lent(
+    normalization::normalize_lent(
         table,
         pool,
         out_table,
@@ -49,70 +43,4 @@ pub fn normalize(table: &[u32], pool: &[u8], out_table: &mut [u32], out_pool: &m
         &mut path,
         &mut tops,
     )
-}
-
-// Normalization in arrays that are lent.
-fn normalize_lent(
-    table: &[u32],
-    pool: &[u8],
-    out_table: &mut [u32],
-    out_pool: &mut [u8],
-    dictionary: &mut [u16],
-    notes: &mut [u16],
-    path: &mut [u16],
-    tops: &mut [u16],
-) -> Filled
-    requires { ⌜ Blank (rowCount (now table)) (now notes) (now path) ⌝ }
-    requires { ⌜ Numbering (now table) (now dictionary) (now notes) ⌝ }
-    requires { ⌜ Topped (rowCount (now table)) (now tops) ⌝ }
-    ensures { λ r. ⌜ r ≡ normalized (now (table .entry)) (now (pool .entry)) (length (now («out_table» .entry))) (length (now («out_pool» .entry))) .answer ⌝ }
-    ensures { λ _. ⌜ now («out_table» .exit) ≡ normalized (now (table .entry)) (now (pool .entry)) (length (now («out_table» .entry))) (length (now («out_pool» .entry))) .table ⌝ }
-    ensures { λ _. ⌜ now («out_pool» .exit) ≡ normalized (now (table .entry)) (now (pool .entry)) (length (now («out_table» .entry))) (length (now («out_pool» .entry))) .pool ⌝ }
-{
-    match input::judge(table, pool, dictionary, notes, path) {
-        Judged::Numbered(names) => {
-            normalize_accepted(table, pool, out_table, out_pool, notes, path, tops, names)
-        }
-        Judged::Refused(why) => outputs::refuse(out_table, out_pool, why),
-    }
-}
-
-// Normalizes an input that draws none of the refusals of an input.
-fn normalize_accepted(
-    table: &[u32],
-    pool: &[u8],
-    out_table: &mut [u32],
-    out_pool: &mut [u8],
-    notes: &mut [u16],
-    path: &mut [u16],
-    tops: &mut [u16],
-    names: u16,
-) -> Filled
-    requires { ⌜ Enough (rowCount (now table)) (now notes) (now path) ⌝ }
-    requires { ⌜ Topped (rowCount (now table)) (now tops) ⌝ }
-    requires { ⌜ Prepared (now table) (now pool) (now notes) (now path) names ⌝ }
-    ensures { λ r. ⌜ r ≡ normalized (now (table .entry)) (now (pool .entry)) (length (now («out_table» .entry))) (length (now («out_pool» .entry))) .answer ⌝ }
-    ensures { λ _. ⌜ now («out_table» .exit) ≡ normalized (now (table .entry)) (now (pool .entry)) (length (now («out_table» .entry))) (length (now («out_pool» .entry))) .table ⌝ }
-    ensures { λ _. ⌜ now («out_pool» .exit) ≡ normalized (now (table .entry)) (now (pool .entry)) (length (now («out_table» .entry))) (length (now («out_pool» .entry))) .pool ⌝ }
-{
-    let limit = outputs::row_limit(out_table.len());
-    let mut work = [0; normal_form::WORK];
-    let sizes = Sizes {
-        rows: rows::row_count(table),
-        bytes: pool.len(),
-        names,
-        free: 1,
-        limit,
-    };
-    let made = normal_form::normalize_into(
-        table,
-        pool,
-        out_table,
-        &mut work,
-        notes,
-        path,
-        tops,
-        sizes,
-    );
-    outputs::finish(out_table, out_pool, &work, made.rows, made.bytes, limit)
 }

@@ -40,9 +40,9 @@ use Rattle.bindings.proofs.Deciding as deciding
 use Rattle.bindings.proofs.Free.{inUse, UsedBefore}
 use Rattle.bindings.proofs.Held.{scope-positions}
 use Rattle.changes.specs.Changes.{Named}
-use Rattle.repair.specs.Working.{Good, AtAttribute, AtUnserved, AfterAttribute, SameAttributes, endField, prefixed, declaredFor}
-use Rattle.repair.proofs.Held.{part, rows-fit, count, part-count, rows-held, noted-row, path-room, asked, element-below, row, here, top-is}
-use Rattle.repair.proofs.Steps.{good-prefixed, good-named, named-attributes, place-of-words}
+use Rattle.working.specs.Working.{Good, AtAttribute, AtUnserved, AfterAttribute, SameAttributes, endField, prefixed, declaredFor}
+use Rattle.working.proofs.Held.{part, rows-fit, count, part-count, rows-held, noted-row, path-room, asked, element-below, row, here, top-is}
+use Rattle.working.proofs.Steps.{good-prefixed, good-named, named-attributes, place-of-words}
 
 first-each : (P : ℕ → Type 0) (l : List ℕ) → Each P l → 0 < first l → P (first l)
 first-each P [] each some? = absurd (omega arith)

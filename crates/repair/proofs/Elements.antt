@@ -29,8 +29,8 @@ use Rattle.bindings.specs.Asking.{topOf, elementSettled, Asked, ownTop}
 use Rattle.bindings.proofs.Scopes.{nearest-some}
 use Rattle.bindings.proofs.Deciding.{nearest-declared}
 use Rattle.bindings.proofs.Settled.{element-settled}
-use Rattle.repair.specs.Working.{Good, AtElement, AtOwn, Undeclared, After, SameAttributes, elementStep, valued, declaredFor}
-use Rattle.repair.proofs.Held.{part, count, part-count, parent-word, noted-row, asked, top-below, element-below, row, here, top-is}
+use Rattle.working.specs.Working.{Good, AtElement, AtOwn, Undeclared, After, SameAttributes, elementStep, valued, declaredFor}
+use Rattle.working.proofs.Held.{part, count, part-count, parent-word, noted-row, asked, top-below, element-below, row, here, top-is}
 
 -- A row that passes a test.
 any-at : {A : Type 0} (test : A → Bool) (xs : List A) (d : A) (i : ℕ) → i < length xs → test (getD xs i d) ≡ true → anyOf test xs ≡ true

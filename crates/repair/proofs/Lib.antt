@@ -1,11 +1,4 @@
--- Held: what good buffers hold. Changed: the numbers after a write. Steps: good buffers after
--- a move or a write. Declaring: a new declaration on the path. Own: an element's own declaration. Elements: steps 1 and 2.
--- Attributes, Unserved: step 3.
-pub mod Held
-pub mod Changed
-pub mod Steps
-pub mod Declaring
-pub mod Own
-pub mod Elements
-pub mod Attributes
-pub mod Unserved
+-- Elements: steps 1 and 2. Attributes, Unserved: step 3.
+mod Elements
+mod Attributes
+mod Unserved

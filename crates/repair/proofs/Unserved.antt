@@ -34,12 +34,13 @@ use Rattle.bindings.specs.Asking.{topOf, Asked, isUsed, Searched, LeastUnused}
 use Rattle.bindings.proofs.Deciding as deciding
 use Rattle.bindings.proofs.Free.{inUse, UsedBefore, not-below, not-before, least-is, noted-use}
 use Rattle.bindings.proofs.Held.{scope-positions}
-use Rattle.changes.specs.Changes.{isFree, Named, numberFor, pathFor}
-use Rattle.repair.specs.Working.{Good, AtAttribute, AtUnserved, AtTop, AfterAttribute, SameAttributes, endField, prefixed, declaredFor}
-use Rattle.repair.proofs.Held.{part, count, part-count, noted-row, element-below, top-is}
-use Rattle.repair.proofs.Changed.{same-tree, numbers-named, named-new}
-use Rattle.repair.proofs.Steps.{good-named, core-set, prefix-core}
-use Rattle.repair.proofs.Declaring.{scope-same, serving-kept, none-first, nearest-none}
+use Rattle.free_prefixes.specs.Free.{isFree, numberFor, pathFor}
+use Rattle.changes.specs.Changes.{Named}
+use Rattle.working.specs.Working.{Good, AtAttribute, AtUnserved, AtTop, AfterAttribute, SameAttributes, endField, prefixed, declaredFor}
+use Rattle.working.proofs.Held.{part, count, part-count, noted-row, element-below, top-is}
+use Rattle.working.proofs.Changed.{same-tree, numbers-named, named-new}
+use Rattle.working.proofs.Steps.{good-named, core-set, prefix-core}
+use Rattle.working.proofs.Declaring.{scope-same, serving-kept, none-first, nearest-none}
 use Rattle.repair.proofs.Attributes.{attribute-below, attribute-asked, attribute-writes, owned, S, scope, prefix, uri, named, top, Unsettled, unsettled, made-declared, made-numbered, used-after, standing-low}
 
 module _ {table pool notes tops path : List ℕ} {rows bytes names limit free a : ℕ} (h : AtUnserved table pool notes tops path rows bytes names limit free a) where

@@ -6,11 +6,9 @@ ghost use mathlib.Core.Bool.{false};
 ghost use mathlib.Core.List.{List};
 ghost use Prim.Native.Nat.{ℕ, _+_, _≤_, _<_, max};
 ghost use lib.ListN.{length};
-ghost use Rattle.rules.specs.Table.{node};
 ghost use Rattle.rules.specs.Normalization.{repairAttribute};
-ghost use Rattle.changes.specs.Changes.{isFree};
-ghost use Rattle.repair.specs.Working.{Good, AtElement, AtAttribute, AtOwn, Undeclared, AtTop, AtUnserved, SameAttributes, After, AfterAttribute, elementStep, valued, declaredFor};
-use rules::Position;
+ghost use Rattle.free_prefixes.specs.Free.{isFree};
+ghost use Rattle.working.specs.Working.{AtElement, AtAttribute, AtUnserved, After, AfterAttribute, elementStep};
 use rules::Row;
 
 // How many rows of the table and bytes of the pool count, how many names have numbers, the NS number that
@@ -42,98 +40,10 @@ pub fn repair_element(
     }
     let own = bindings::own_declaration(&table[..rules::WIDTH * rows], notes, tops, element);
     if own.0 > 0 {
-        set_own(table, notes, tops, path, element, notes::row_at(own), rows);
+        declaring::set_own(table, notes, tops, path, element, notes::row_at(own), rows);
         return rows;
     }
-    append_own(table, notes, tops, path, element, rows, limit)
-}
-
-// Sets an element's own declaration of its prefix to its URI.
-fn set_own(
-    table: &mut [u32],
-    notes: &mut [u16],
-    tops: &mut [u16],
-    path: &mut [u16],
-    element: Row,
-    declaration: Row,
-    rows: usize,
-)
-    requires { ⌜ AtOwn (now table) (now notes) (now tops) (now path) rows (element .0) (declaration .0) ⌝ }
-    ensures { λ _. ⌜ ((h : AtOwn (now (table .entry)) (now (notes .entry)) (now (tops .entry)) (now (path .entry)) rows (element .0) (declaration .0)) → Good (now (table .exit)) (h .pool) (now (notes .exit)) (now (tops .exit)) (now (path .exit)) rows (h .bytes) (h .names) (h .limit) (element .0 + 1) (valued (declaration .0) (node (h .at .state .rows) (element .0) .uri) (h .at .state))) ⌝ }
-    ensures { λ _. ⌜ SameAttributes (now (notes .entry)) (now (notes .exit)) ⌝ }
-{
-    let position = element.0 as u16 + 1;
-    scopes::leave(
-        &table[..rules::WIDTH * rows],
-        notes,
-        tops,
-        path,
-        Position(position),
-    );
-    changes::set_value(table, notes, element, declaration, rows);
-    scopes::enter(
-        &table[..rules::WIDTH * rows],
-        notes,
-        tops,
-        path,
-        Position(position),
-    );
-}
-
-// Appends a declaration of an element's prefix as its URI. Answers how many rows there are then, one more
-// than the limit where that is too many.
-fn append_own(
-    table: &mut [u32],
-    notes: &mut [u16],
-    tops: &mut [u16],
-    path: &mut [u16],
-    element: Row,
-    rows: usize,
-    limit: usize,
-) -> usize
-    requires { ⌜ ((names : ℕ) × Undeclared (now table) (now notes) (now tops) (now path) rows names limit (element .0)) ⌝ }
-    ensures { λ r. ⌜ ((names : ℕ) (h : Undeclared (now (table .entry)) (now (notes .entry)) (now (tops .entry)) (now (path .entry)) rows names limit (element .0)) → After (now (notes .entry)) (now (table .exit)) (h .pool) (now (notes .exit)) (now (tops .exit)) (now (path .exit)) r (h .bytes) names limit (element .0 + 1) (declaredFor (element .0) (element .0) (h .at .state))) ⌝ }
-{
-    if limit <= rows {
-        return limit + 1;
-    }
-    let position = element.0 as u16 + 1;
-    scopes::leave(
-        &table[..rules::WIDTH * rows],
-        notes,
-        tops,
-        path,
-        Position(position),
-    );
-    changes::write_declaration(table, notes, element, element, rows);
-    let words = &table[..rules::WIDTH * (rows + 1)];
-    scopes::link(words, notes, Row(rows as u32));
-    scopes::enter(words, notes, tops, path, Position(position));
-    rows + 1
-}
-
-// Appends the declaration of an attribute's prefix as its URI, for its owner, and puts it on top.
-fn append_on_top(
-    table: &mut [u32],
-    notes: &mut [u16],
-    tops: &mut [u16],
-    path: &mut [u16],
-    attribute: Row,
-    rows: usize,
-)
-    requires { ⌜ AtTop (now table) (now notes) (now tops) (now path) rows (attribute .0) ⌝ }
-    ensures { λ _. ⌜ ((h : AtTop (now (table .entry)) (now (notes .entry)) (now (tops .entry)) (now (path .entry)) rows (attribute .0)) → Good (now (table .exit)) (h .pool) (now (notes .exit)) (now (tops .exit)) (now (path .exit)) (rows + 1) (h .bytes) (h .names) (h .limit) (h .owner + 1) (declaredFor (h .owner) (attribute .0) (h .state))) ⌝ }
-    ensures { λ _. ⌜ SameAttributes (now (notes .entry)) (now (notes .exit)) ⌝ }
-{
-    let owner = rows::parent(&table[..rules::WIDTH * rows], attribute);
-    changes::write_declaration(table, notes, owner, attribute, rows);
-    scopes::declare(
-        &table[..rules::WIDTH * (rows + 1)],
-        notes,
-        tops,
-        path,
-        Position(owner.0 as u16 + 1),
-    );
+    declaring::append_own(table, notes, tops, path, element, rows, limit)
 }
 
 // Step 3 for an attribute of the element at which the path stands.
@@ -167,7 +77,7 @@ pub fn repair_attribute(
         };
     }
     let uri = notes::name(notes, attribute, notes::URI);
-    let found = stacks::serving(notes, tops, path, uri);
+    let found = serving::nearest(notes, tops, path, uri);
     if found.0 > 0 {
         changes::take_prefix(table, notes, attribute, notes::row_at(found), rows);
         return sizes;
@@ -200,8 +110,8 @@ fn declare_attribute(
             limit,
         };
     }
-    if changes::is_free(notes, tops, attribute) {
-        append_on_top(table, notes, tops, path, attribute, rows);
+    if free_prefixes::is_free(notes, tops, attribute) {
+        declaring::append_on_top(table, notes, tops, path, attribute, rows);
         return Sizes {
             rows: rows + 1,
             bytes: sizes.bytes,
@@ -230,10 +140,10 @@ fn number_attribute(
 {
     let rows = sizes.rows;
     let names = sizes.names;
-    let k = bindings::least_unused(tops, path, sizes.free);
-    let number = changes::number_for(path, k, names);
+    let k = free_prefixes::least_unused(tops, path, sizes.free);
+    let number = free_prefixes::number_for(path, k, names);
     let bytes = changes::take_numbered(table, pool, notes, attribute, k, number, sizes.bytes);
-    append_on_top(table, notes, tops, path, attribute, rows);
+    declaring::append_on_top(table, notes, tops, path, attribute, rows);
     Sizes {
         rows: rows + 1,
         bytes,

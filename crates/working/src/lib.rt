@@ -1,0 +1,1 @@
+// The working buffers of normalization, and what a write leaves in them.
