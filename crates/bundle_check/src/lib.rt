@@ -4,7 +4,7 @@ ghost use mathlib.Core.Path.{_≡_};
 ghost use Rattle.checker.specs.Lent.{FEW-ROWS};
 ghost use Rattle.bundles.specs.Operations.{bundleChecked};
 ghost use Rattle.bundles.specs.Opening.{NamesAtMost};
-use bundles::Opened;
+use bundle_opening::Opened;
 use rules::Checked;
 
 // The words of the largest table, and of a small one.
@@ -16,10 +16,10 @@ const FEW_WORDS: usize = rules::WIDTH * checker::FEW_ROWS;
 pub fn check(bundle: &[u8]) -> Checked
     ensures { λ r. ⌜ r ≡ bundleChecked (now (bundle .entry)) ⌝ }
 {
-    if bundles::rows_named(bundle) > checker::FEW_ROWS {
+    if bundle_opening::rows_named(bundle) > checker::FEW_ROWS {
         return check_any(bundle);
     }
-    if bundles::bytes_named(bundle) > bundles::SHORT_POOL {
+    if bundle_opening::bytes_named(bundle) > checker::FEW_BYTES {
         return check_any(bundle);
     }
     check_few(bundle)
@@ -29,9 +29,11 @@ pub fn check(bundle: &[u8]) -> Checked
 fn check_any(bundle: &[u8]) -> Checked
     ensures { λ r. ⌜ r ≡ bundleChecked (now (bundle .entry)) ⌝ }
 {
-    let mut table = [buffers::UNREAD; WORDS];
-    match bundles::read_rows(bundle, &mut table) {
-        Opened::Rows(n) => { checker::check(&table[..rules::WIDTH * n], bundles::pool(bundle, n)) }
+    let mut table = [0; WORDS];
+    match bundle_opening::read_rows(bundle, &mut table) {
+        Opened::Rows(n) => {
+            checker::check(&table[..rules::WIDTH * n], bundle_opening::pool(bundle, n))
+        }
         Opened::Refused(x) => Checked::Refused(x),
     }
 }
@@ -42,9 +44,9 @@ fn check_few(bundle: &[u8]) -> Checked
     ensures { λ r. ⌜ r ≡ bundleChecked (now (bundle .entry)) ⌝ }
 {
     let mut table = [0; FEW_WORDS];
-    match bundles::read_rows(bundle, &mut table) {
+    match bundle_opening::read_rows(bundle, &mut table) {
         Opened::Rows(n) => {
-            checker::check_small(&table[..rules::WIDTH * n], bundles::pool(bundle, n))
+            checker::check_small(&table[..rules::WIDTH * n], bundle_opening::pool(bundle, n))
         }
         Opened::Refused(x) => Checked::Refused(x),
     }

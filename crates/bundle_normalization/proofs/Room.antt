@@ -6,12 +6,12 @@ use mathlib.Core.List.{List}
 use native.Mathlib.Omega.{arith}
 use lib.ListN.{length, drop, replicate, length-drop, length-replicate}
 use Rattle.rules.specs.Table.{WIDTH, MOST-ROWS}
-use Rattle.checker.specs.Lent.{FEW-ROWS}
+use Rattle.checker.specs.Lent.{FEW-ROWS, FEW-BYTES}
 use Rattle.normal_form.specs.Result.{RoomFor}
 use Rattle.bundles.specs.Bundles.{poolStart}
 use Rattle.bundles.specs.Opening.{Opens}
 use Rattle.bundles.proofs.Opening.{bundle-agreed}
-use Rattle.bundle_normalization.specs.Small.{SHORT-POOL, Small}
+use Rattle.bundle_normalization.specs.Small.{Small}
 
 -- Arrays that were made for so many rows and pool bytes serve a bundle that has no more.
 pub room-for :
@@ -33,7 +33,7 @@ module _ (bytes buffer : List ℕ) (n : ℕ) (is : Opens bytes buffer n) (small 
       let rows = is .rows in
       omega arith
 
-  pub pool-few : (pool : List ℕ) → pool ≡ drop (poolStart n) bytes → length pool ≤ SHORT-POOL
+  pub pool-few : (pool : List ℕ) → pool ≡ drop (poolStart n) bytes → length pool ≤ FEW-BYTES
   pool-few pool e =
       let known = bundle-agreed bytes (is .bundle) in
       let short = small .short (known .header) in

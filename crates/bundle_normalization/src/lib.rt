@@ -3,7 +3,7 @@ ghost use mathlib.Core.Path.{_≡_};
 ghost use lib.ListN.{length};
 ghost use Rattle.bundles.specs.Operations.{bundleNormalized};
 ghost use Rattle.bundle_normalization.specs.Small.{Small};
-use bundles::Opened;
+use bundle_opening::Opened;
 use rules::Written;
 
 // The words of the largest table.
@@ -15,10 +15,10 @@ pub fn normalize(bundle: &[u8], out: &mut [u8]) -> Written
     ensures { λ r. ⌜ r ≡ bundleNormalized (now (bundle .entry)) (length (now (out .entry))) .answer ⌝ }
     ensures { λ _. ⌜ now (out .exit) ≡ bundleNormalized (now (bundle .entry)) (length (now (out .entry))) .bytes ⌝ }
 {
-    if bundles::rows_named(bundle) > checker::FEW_ROWS {
+    if bundle_opening::rows_named(bundle) > checker::FEW_ROWS {
         return normalize_any(bundle, out);
     }
-    if bundles::bytes_named(bundle) > in_place::FEW_BYTES {
+    if bundle_opening::bytes_named(bundle) > checker::FEW_BYTES {
         return normalize_any(bundle, out);
     }
     normalize_few(bundle, out)
@@ -29,13 +29,14 @@ fn normalize_any(bundle: &[u8], out: &mut [u8]) -> Written
     ensures { λ r. ⌜ r ≡ bundleNormalized (now (bundle .entry)) (length (now (out .entry))) .answer ⌝ }
     ensures { λ _. ⌜ now (out .exit) ≡ bundleNormalized (now (bundle .entry)) (length (now (out .entry))) .bytes ⌝ }
 {
-    let mut words = [buffers::UNREAD; WORDS];
-    match bundles::read_rows(bundle, &mut words) {
+    let mut words = [0; WORDS];
+    match bundle_opening::read_rows(bundle, &mut words) {
         Opened::Rows(n) => {
-            let pool = bundles::pool(bundle, n);
+            let pool = bundle_opening::pool(bundle, n);
             let mut work = [0; normal_form::WORK];
             buffers::copy_bytes(pool, &mut work);
-            transfers::normalize(&mut words, &mut work, n, pool.len(), out)
+            let made = in_place::normalize(&mut words, &mut work, n, pool.len());
+            result_bundle::write_made(made, &words, &work, out)
         }
         Opened::Refused(x) => bundles::refuse(out, x),
     }
@@ -48,12 +49,13 @@ fn normalize_few(bundle: &[u8], out: &mut [u8]) -> Written
     ensures { λ _. ⌜ now (out .exit) ≡ bundleNormalized (now (bundle .entry)) (length (now (out .entry))) .bytes ⌝ }
 {
     let mut words = [0; in_place::FEW_WORDS];
-    match bundles::read_rows(bundle, &mut words) {
+    match bundle_opening::read_rows(bundle, &mut words) {
         Opened::Rows(n) => {
-            let pool = bundles::pool(bundle, n);
+            let pool = bundle_opening::pool(bundle, n);
             let mut work = [0; in_place::FEW_WORK];
             buffers::copy_bytes(pool, &mut work);
-            transfers::normalize_few(&mut words, &mut work, n, pool.len(), out)
+            let made = in_place::normalize_few(&mut words, &mut work, n, pool.len());
+            result_bundle::write_made(made, &words, &work, out)
         }
         Opened::Refused(x) => bundles::refuse(out, x),
     }

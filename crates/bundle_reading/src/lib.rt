@@ -4,7 +4,7 @@ ghost use lib.ListN.{length};
 ghost use Rattle.checker.specs.Lent.{FEW-ROWS};
 ghost use Rattle.bundles.specs.Operations.{bundleRead};
 ghost use Rattle.bundles.specs.Opening.{NamesAtMost};
-use bundles::Opened;
+use bundle_opening::Opened;
 use rules::Filled;
 
 // The words of the largest table, and of a small one.
@@ -19,10 +19,10 @@ pub fn read(bundle: &[u8], out_table: &mut [u32], out_pool: &mut [u8]) -> Filled
     ensures { λ _. ⌜ now («out_table» .exit) ≡ bundleRead (now (bundle .entry)) (length (now («out_table» .entry))) (length (now («out_pool» .entry))) .table ⌝ }
     ensures { λ _. ⌜ now («out_pool» .exit) ≡ bundleRead (now (bundle .entry)) (length (now («out_table» .entry))) (length (now («out_pool» .entry))) .pool ⌝ }
 {
-    if bundles::rows_named(bundle) > checker::FEW_ROWS {
+    if bundle_opening::rows_named(bundle) > checker::FEW_ROWS {
         return read_any(bundle, out_table, out_pool);
     }
-    if bundles::bytes_named(bundle) > bundles::SHORT_POOL {
+    if bundle_opening::bytes_named(bundle) > checker::FEW_BYTES {
         return read_any(bundle, out_table, out_pool);
     }
     read_few(bundle, out_table, out_pool)
@@ -34,12 +34,12 @@ fn read_any(bundle: &[u8], out_table: &mut [u32], out_pool: &mut [u8]) -> Filled
     ensures { λ _. ⌜ now («out_table» .exit) ≡ bundleRead (now (bundle .entry)) (length (now («out_table» .entry))) (length (now («out_pool» .entry))) .table ⌝ }
     ensures { λ _. ⌜ now («out_pool» .exit) ≡ bundleRead (now (bundle .entry)) (length (now («out_table» .entry))) (length (now («out_pool» .entry))) .pool ⌝ }
 {
-    let mut words = [buffers::UNREAD; WORDS];
-    match bundles::read_rows(bundle, &mut words) {
+    let mut words = [0; WORDS];
+    match bundle_opening::read_rows(bundle, &mut words) {
         Opened::Rows(n) => {
             let table = &words[..rules::WIDTH * n];
-            let pool = bundles::pool(bundle, n);
-            transfers::read(
+            let pool = bundle_opening::pool(bundle, n);
+            table_reading::read(
                 checker::check(table, pool),
                 table,
                 pool,
@@ -59,11 +59,11 @@ fn read_few(bundle: &[u8], out_table: &mut [u32], out_pool: &mut [u8]) -> Filled
     ensures { λ _. ⌜ now («out_pool» .exit) ≡ bundleRead (now (bundle .entry)) (length (now («out_table» .entry))) (length (now («out_pool» .entry))) .pool ⌝ }
 {
     let mut words = [0; FEW_WORDS];
-    match bundles::read_rows(bundle, &mut words) {
+    match bundle_opening::read_rows(bundle, &mut words) {
         Opened::Rows(n) => {
             let table = &words[..rules::WIDTH * n];
-            let pool = bundles::pool(bundle, n);
-            transfers::read(
+            let pool = bundle_opening::pool(bundle, n);
+            table_reading::read(
                 checker::check_small(table, pool),
                 table,
                 pool,

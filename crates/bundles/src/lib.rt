@@ -1,102 +1,19 @@
-// Session bundles: a node table and its pool as bytes. Reading the rows of a bundle, and writing a bundle.
+// Session bundles: a node table and its pool as bytes. What the bytes begin with, and what a refused write leaves.
 ghost use mathlib.Core.Path.{_≡_};
-ghost use mathlib.Core.Option.{none, some};
-ghost use Prim.Native.Nat.{ℕ, _≤_, _<_};
-ghost use lib.ListN.{length, drop};
-ghost use Rattle.rules.specs.Refusals.{verdict};
-ghost use Rattle.rules.specs.declared.Refusal.{Refusal};
-ghost use Rattle.rules.proofs.Accepted.{Sized};
-ghost use Rattle.bundles.specs.Bundles.{HEADER, poolStart, headerBytes, writeBundle, bundleRows, bundlePoolLength, wrongMark, otherVersion, badLengths};
-ghost use Rattle.buffers.specs.Writes.{written};
-ghost use Rattle.bundles.specs.Operations.{writeRefused, bundleWritten};
-ghost use Rattle.bundles.specs.Opening.{openingRefusal, HasRoom, Opens};
-ghost use Rattle.bundles.specs.declared.Opened.{Opened};
-use rules::Checked;
-use rules::Offset;
+ghost use lib.ListN.{length};
+ghost use Rattle.bundles.specs.Operations.{writeRefused};
 use rules::Refusal;
 use rules::Written;
 
 // The bytes before the rows, and the bytes of a row.
-const HEADER: usize = 12;
+pub const HEADER: usize = 12;
 
-const ROW_BYTES: usize = 4 * rules::WIDTH;
-
-// The pool bytes of a small bundle.
-pub const SHORT_POOL: usize = 4096;
+pub const ROW_BYTES: usize = 4 * rules::WIDTH;
 
 // `NTB`, and the version's two bytes.
-const MARK: [u8; 3] = [78, 84, 66];
+pub const MARK: [u8; 3] = [78, 84, 66];
 
-const VERSION: [u8; 2] = [1, 0];
-
-// What opening a bundle answers: how many rows it has.
-pub enum Opened {
-    Rows(usize),
-    Refused(Refusal),
-}
-
-// Opens a bundle: reads its rows into the start of a table that has room for them. Refuses with 30 to 32, and
-// with 1 for more rows or pool bytes than there may be.
-pub fn read_rows(bundle: &[u8], table: &mut [u32]) -> Opened
-    requires { ⌜ HasRoom (now bundle) (now table) ⌝ }
-    ensures { λ r. ⌜ ((n : ℕ) → r ≡ Opened.Rows n → Opens (now (bundle .entry)) (now (table .exit)) n) ⌝ }
-    ensures { λ r. ⌜ ((x : Refusal) → r ≡ Opened.Refused x → openingRefusal (now (bundle .entry)) ≡ some x) ⌝ }
-{
-    match judge(bundle) {
-        Checked::Accepted => {
-            let rows = row_count(bundle);
-            little_endian::read_words(&bundle[HEADER..], table, rules::WIDTH * rows);
-            Opened::Rows(rows)
-        }
-        Checked::Refused(x) => Opened::Refused(x),
-    }
-}
-
-// The row count that a bundle names, 0 where its bytes end before the rows.
-pub fn rows_named(bundle: &[u8]) -> usize
-    ensures { λ r. ⌜ (HEADER ≤ length (now (bundle .entry)) → r ≡ bundleRows (now (bundle .entry))) ⌝ }
-{
-    if bundle.len() < HEADER {
-        return 0;
-    }
-    row_count(bundle)
-}
-
-// The pool length that a bundle names, 0 where its bytes end before the rows.
-pub fn bytes_named(bundle: &[u8]) -> usize
-    ensures { λ r. ⌜ (HEADER ≤ length (now (bundle .entry)) → r ≡ bundlePoolLength (now (bundle .entry))) ⌝ }
-{
-    if bundle.len() < HEADER {
-        return 0;
-    }
-    pool_length(bundle)
-}
-
-// The pool of a bundle of so many rows.
-pub fn pool(bundle: &[u8], rows: usize) -> &[u8]
-    requires { ⌜ poolStart rows ≤ length (now bundle) ⌝ }
-    ensures { λ r. ⌜ now r ≡ drop (poolStart rows) (now (bundle .entry)) ⌝ }
-{
-    &bundle[HEADER + ROW_BYTES * rows..]
-}
-
-// Writes a table and its pool as a bundle to the start of an output, and clears the rest; or refuses with 33.
-pub fn write_bundle(table: &[u32], pool: &[u8], out: &mut [u8]) -> Written
-    requires { ⌜ Sized (now table) (now pool) ⌝ }
-    ensures { λ r. ⌜ r ≡ bundleWritten none (length (now (out .entry))) (writeBundle (now (table .entry)) (now (pool .entry))) .answer ⌝ }
-    ensures { λ _. ⌜ now (out .exit) ≡ bundleWritten none (length (now (out .entry))) (writeBundle (now (table .entry)) (now (pool .entry))) .bytes ⌝ }
-{
-    let behind = HEADER + 4 * table.len();
-    let size = behind + pool.len();
-    if out.len() < size {
-        return refuse(out, Refusal::BundleRoom);
-    }
-    write_header(rows::row_count(table) as u32, pool.len() as u32, out);
-    little_endian::write_words(out, HEADER, table);
-    buffers::append_bytes(out, Offset(behind as u32), pool);
-    buffers::clear_bytes(out, size);
-    Written::Done { bytes: size }
-}
+pub const VERSION: [u8; 2] = [1, 0];
 
 // Refuses, and clears the output.
 pub fn refuse(out: &mut [u8], why: Refusal) -> Written
@@ -105,104 +22,4 @@ pub fn refuse(out: &mut [u8], why: Refusal) -> Written
 {
     buffers::clear_bytes(out, 0);
     Written::Refused(why)
-}
-
-// Refusals 30 to 32, and 1.
-fn judge(bundle: &[u8]) -> Checked
-    ensures { λ r. ⌜ r ≡ verdict (openingRefusal (now (bundle .entry))) ⌝ }
-{
-    if wrong_mark(bundle) {
-        return Checked::Refused(Refusal::Mark);
-    }
-    if other_version(bundle) {
-        return Checked::Refused(Refusal::Version);
-    }
-    if bad_lengths(bundle) {
-        return Checked::Refused(Refusal::Lengths);
-    }
-    if row_count(bundle) > rules::MOST_ROWS {
-        return Checked::Refused(Refusal::Size);
-    }
-    if pool_length(bundle) > rules::MOST_BYTES {
-        return Checked::Refused(Refusal::Size);
-    }
-    Checked::Accepted
-}
-
-// 30: another mark, or the bytes end before it is whole.
-fn wrong_mark(bundle: &[u8]) -> bool
-    ensures { λ r. ⌜ r ≡ wrongMark (now (bundle .entry)) ⌝ }
-{
-    if bundle.len() < 3 {
-        return true;
-    }
-    !names::same(&bundle[..3], &MARK)
-}
-
-// 31: another version, or the bytes end before it is whole.
-fn other_version(bundle: &[u8]) -> bool
-    ensures { λ r. ⌜ r ≡ otherVersion (now (bundle .entry)) ⌝ }
-{
-    if bundle.len() < 5 {
-        return true;
-    }
-    !names::same(&bundle[3..5], &VERSION)
-}
-
-// 32: the bytes end before the rows, a zero byte that is not zero, or lengths that disagree.
-fn bad_lengths(bundle: &[u8]) -> bool
-    ensures { λ r. ⌜ r ≡ badLengths (now (bundle .entry)) ⌝ }
-{
-    if bundle.len() < HEADER {
-        return true;
-    }
-    if bundle[5] != 0 {
-        return true;
-    }
-    bundle.len() != HEADER + ROW_BYTES * row_count(bundle) + pool_length(bundle)
-}
-
-// The row count that a bundle names.
-fn row_count(bundle: &[u8]) -> usize
-    requires { ⌜ HEADER ≤ length (now bundle) ⌝ }
-    ensures { λ r. ⌜ (r ≡ bundleRows (now (bundle .entry))) × (r < 4294967296) ⌝ }
-{
-    wide(little_endian::short(bundle, 6))
-}
-
-// The pool length that a bundle names.
-fn pool_length(bundle: &[u8]) -> usize
-    requires { ⌜ HEADER ≤ length (now bundle) ⌝ }
-    ensures { λ r. ⌜ (r ≡ bundlePoolLength (now (bundle .entry))) × (r < 4294967296) ⌝ }
-{
-    wide(little_endian::word(bundle, 8))
-}
-
-// A number of the bundle as a length.
-fn wide(x: u32) -> usize
-    ensures { λ r. ⌜ (r ≡ x) × (r < 4294967296) ⌝ }
-{
-    x as usize
-}
-
-// Writes the bytes before the rows.
-fn write_header(rows: u32, bytes: u32, out: &mut [u8])
-    requires { ⌜ HEADER ≤ length (now out) ⌝ }
-    ensures { λ _. ⌜ now (out .exit) ≡ written (now (out .entry)) 0 (headerBytes rows bytes) ⌝ }
-{
-    let header = [
-        MARK[0],
-        MARK[1],
-        MARK[2],
-        VERSION[0],
-        VERSION[1],
-        0,
-        little_endian::byte(rows),
-        little_endian::byte(rows / 256),
-        little_endian::byte(bytes),
-        little_endian::byte(bytes / 256),
-        little_endian::byte(bytes / 65536),
-        little_endian::byte(bytes / 16777216),
-    ];
-    buffers::append_bytes(out, Offset(0), &header);
 }

@@ -6,9 +6,9 @@ ghost use Rattle.answers.specs.Given.{checkGiven, locatedGiven, boundGiven, fil
 ghost use Rattle.bundles.specs.Operations.{bundleRead, tableWritten, bundleChecked, bundleUriOfPrefix, bundlePrefixOfUri, bundleDefaultUri, bundleInScopeUri, bundleInScopePrefix, bundleNormalized};
 ghost use Rattle.markup.specs.Writing.{bundleText};
 use answers::Found;
-use answers::Number;
 use answers::Sizes;
 use answers::Used;
+use refusal_numbers::Number;
 use rules::Row;
 
 // The first refusal that a bundle draws, or that it is accepted.
@@ -97,5 +97,5 @@ pub extern "C" fn noemathu_write(table: &[u32], pool: &[u8], out: &mut [u8]) -> 
     ensures { λ r. ⌜ r ≡ writtenGiven (tableWritten (now (table .entry)) (now (pool .entry)) (length (now (out .entry))) .answer) ⌝ }
     ensures { λ _. ⌜ now (out .exit) ≡ tableWritten (now (table .entry)) (now (pool .entry)) (length (now (out .entry))) .bytes ⌝ }
 {
-    answers::written(transfers::write(table, pool, out))
+    answers::written(table_writing::write(table, pool, out))
 }

@@ -2,7 +2,7 @@
 -- Assumes nothing.
 use Rattle.rules.specs.Answers.{boundNumber, boundFound, boundPlace}
 use Rattle.answers.specs.Given.{boundGiven}
-use Rattle.answers.proofs.Told.{told}
+use Rattle.refusal_numbers.proofs.Told.{told}
 use borrow.Author.Needs.{needs}
 use Rattle.answers.proofs.bound.Statement.{statement}
 use Rattle.answers.proofs.bound.Tie as tie

@@ -2,7 +2,7 @@
 -- Assumes nothing.
 use Rattle.rules.specs.Answers.{checkNumber}
 use Rattle.answers.specs.Given.{checkGiven}
-use Rattle.answers.proofs.Told.{told}
+use Rattle.refusal_numbers.proofs.Told.{told}
 use borrow.Author.Needs.{needs}
 use Rattle.answers.proofs.check_number.Statement.{statement}
 use Rattle.answers.proofs.check_number.Tie as tie

@@ -2,7 +2,7 @@
 -- Assumes nothing.
 use Rattle.rules.specs.Answers.{filledNumber, filledRows, filledBytes}
 use Rattle.answers.specs.Given.{filledGiven}
-use Rattle.answers.proofs.Told.{told}
+use Rattle.refusal_numbers.proofs.Told.{told}
 use borrow.Author.Needs.{needs}
 use Rattle.answers.proofs.filled.Statement.{statement}
 use Rattle.answers.proofs.filled.Tie as tie

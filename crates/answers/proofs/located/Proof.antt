@@ -2,7 +2,7 @@
 -- Assumes nothing.
 use Rattle.rules.specs.Answers.{locatedNumber, locatedFound, locatedPlace}
 use Rattle.answers.specs.Given.{locatedGiven}
-use Rattle.answers.proofs.Told.{told}
+use Rattle.refusal_numbers.proofs.Told.{told}
 use borrow.Author.Needs.{needs}
 use Rattle.answers.proofs.located.Statement.{statement}
 use Rattle.answers.proofs.located.Tie as tie

@@ -2,7 +2,7 @@
 -- Assumes nothing.
 use Rattle.rules.specs.Answers.{writtenNumber, writtenBytes}
 use Rattle.answers.specs.Given.{writtenGiven}
-use Rattle.answers.proofs.Told.{told}
+use Rattle.refusal_numbers.proofs.Told.{told}
 use borrow.Author.Needs.{needs}
 use Rattle.answers.proofs.written.Statement.{statement}
 use Rattle.answers.proofs.written.Tie as tie

@@ -27,20 +27,24 @@ short c = pool-short _ _ _ (opened (c .before)) _ (c .pool .ensures)
 
 normalize-requires : tie.Need-normalize-requires
 normalize-requires c κs =
-    let p = c .before .before .before .before .before .before in
+    let p = c .before .before .before .before .before in
     let k = p .before in
     let words = k .before .before .before .before .read-rows .kept .1 .0 in
     let few = opened k .few in
     let fits = short p in
-    room-for _ _ _ _ MOST-ROWS MOST-BYTES (omega arith) (c .before .before .before .before .copy-bytes .kept .1 .0) (omega arith) (omega arith) (omega arith) (omega arith)
+    room-for _ _ _ _ MOST-ROWS MOST-BYTES (omega arith) (c .before .before .before .copy-bytes .kept .1 .0) (omega arith) (omega arith) (omega arith) (omega arith)
+
+write-made-requires : tie.Need-write-made-requires
+write-made-requires c κs = (_, _, c .before .before .before .before .before .normalize .ensures)
 
 returns : tie.Need-returns
 returns c =
-    let p = c .before .before .before .before .before .before .before .before .before .before .before in
-    let names = ap (take (length (now (p .pool .result)))) (c .before .before .before .before .before .before .before .before .before .copy-bytes .ensures) ∙ copied _ _ ∙ p .pool .ensures in
+    let p = c .before .before .before .before .before .before .before .before .before .before .before .before .before .before in
+    let names = ap (take (length (now (p .pool .result)))) (c .before .before .before .before .before .before .before .before .before .before .before .before .copy-bytes .ensures) ∙ copied _ _ ∙ p .pool .ensures in
     let is = normalize-open _ _ _ (opened (p .before)) _ names _ in
-    let done = c .before .before .before .before .normalize .ensures in
-    (done .0 ∙ ap (λ (o : WriteOutcome). o .answer) is, done .1 ∙ ap (λ (o : WriteOutcome). o .bytes) is)
+    let made = c .before .before .before .before .before .before .before .before .normalize .ensures in
+    let done = c .before .before .write-made .ensures in
+    (done .0 _ _ made ∙ ap (λ (o : WriteOutcome). o .answer) is, done .1 _ _ made ∙ ap (λ (o : WriteOutcome). o .bytes) is)
 
 returns-2 : tie.Need-returns-2
 returns-2 c =
@@ -53,7 +57,7 @@ normalize-any-spec =
     tie.close
     (tie.spec
     (λ c. search needs)
-    (λ c κs. new-room (c .before .before .before .args .bundle .now) MOST-ROWS 1 (λ header few. few))
+    (λ c κs. new-room (c .before .before .before .args .bundle .now) MOST-ROWS 0 (λ header few. few))
     (λ c. search needs)
     (λ c κs. opened c .inside)
     (λ c. search needs)
@@ -63,6 +67,9 @@ normalize-any-spec =
     (λ c. search needs)
     (λ c. search needs)
     normalize-requires
+    (λ c. search needs)
+    (λ c. search needs)
+    write-made-requires
     (λ c. search needs)
     (λ c κs. search needs)
     (λ c. search needs)

@@ -5,13 +5,13 @@ use mathlib.Core.Path.{sym, ap, _∙_}
 use native.Mathlib.Omega.{arith}
 use denote.Ref.{now}
 use lib.ListN.{length, take}
-use Rattle.checker.specs.Lent.{FEW-ROWS}
+use Rattle.checker.specs.Lent.{FEW-ROWS, FEW-BYTES}
 use Rattle.buffers.proofs.Meaning.{copied}
 use Rattle.bundles.specs.Operations.{WriteOutcome}
 use Rattle.bundles.specs.Opening.{Opens}
 use Rattle.bundles.proofs.Opening.{new-room}
 use Rattle.bundles.proofs.Over.{normalize-not-open, normalize-open}
-use Rattle.bundle_normalization.specs.Small.{SHORT-POOL, FEW-WORK}
+use Rattle.bundle_normalization.specs.Small.{FEW-WORK}
 use Rattle.bundle_normalization.proofs.Room.{room-for, fits-work, rows-few, pool-few}
 use borrow.Author.Needs.{needs}
 use Rattle.bundle_normalization.proofs.normalize_few.Statement.{statement}
@@ -22,26 +22,30 @@ opened : (c : tie.After-known-told) → Opens (now (c .before .before .before .b
 opened c = c .before .before .before .before .read-rows .ensures .0 _ (c .before .n .given .1)
 
 -- Its pool is short.
-short : (c : tie.After-pool) → length (now (c .pool .result)) ≤ SHORT-POOL
+short : (c : tie.After-pool) → length (now (c .pool .result)) ≤ FEW-BYTES
 short c = pool-few _ _ _ (opened (c .before)) (c .before .before .before .before .before .before .before .before .before .pre) _ (c .pool .ensures)
 
 normalize-few-requires : tie.Need-normalize-few-requires
 normalize-few-requires c κs =
-    let p = c .before .before .before .before .before .before in
+    let p = c .before .before .before .before .before in
     let k = p .before in
     let words = k .before .before .before .before .read-rows .kept .1 .0 in
     let few = opened k .few in
     let within = rows-few _ _ _ (opened k) (k .before .before .before .before .before .before .before .before .pre) in
     let fits = short p in
-    (room-for _ _ _ _ FEW-ROWS SHORT-POOL (omega arith) (c .before .before .before .before .copy-bytes .kept .1 .0) (omega arith) (omega arith) (omega arith) (omega arith), omega arith)
+    (room-for _ _ _ _ FEW-ROWS FEW-BYTES (omega arith) (c .before .before .before .copy-bytes .kept .1 .0) (omega arith) (omega arith) (omega arith) (omega arith), omega arith)
+
+write-made-requires : tie.Need-write-made-requires
+write-made-requires c κs = (_, _, c .before .before .before .before .before .normalize-few .ensures)
 
 returns : tie.Need-returns
 returns c =
-    let p = c .before .before .before .before .before .before .before .before .before .before .before in
-    let names = ap (take (length (now (p .pool .result)))) (c .before .before .before .before .before .before .before .before .before .copy-bytes .ensures) ∙ copied _ _ ∙ p .pool .ensures in
+    let p = c .before .before .before .before .before .before .before .before .before .before .before .before .before .before in
+    let names = ap (take (length (now (p .pool .result)))) (c .before .before .before .before .before .before .before .before .before .before .before .before .copy-bytes .ensures) ∙ copied _ _ ∙ p .pool .ensures in
     let is = normalize-open _ _ _ (opened (p .before)) _ names _ in
-    let done = c .before .before .before .before .normalize-few .ensures in
-    (done .0 ∙ ap (λ (o : WriteOutcome). o .answer) is, done .1 ∙ ap (λ (o : WriteOutcome). o .bytes) is)
+    let made = c .before .before .before .before .before .before .before .before .normalize-few .ensures in
+    let done = c .before .before .write-made .ensures in
+    (done .0 _ _ made ∙ ap (λ (o : WriteOutcome). o .answer) is, done .1 _ _ made ∙ ap (λ (o : WriteOutcome). o .bytes) is)
 
 returns-2 : tie.Need-returns-2
 returns-2 c =
@@ -64,6 +68,9 @@ normalize-few-spec =
     (λ c. search needs)
     (λ c. search needs)
     normalize-few-requires
+    (λ c. search needs)
+    (λ c. search needs)
+    write-made-requires
     (λ c. search needs)
     (λ c κs. search needs)
     (λ c. search needs)

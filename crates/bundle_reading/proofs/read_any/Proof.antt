@@ -34,7 +34,7 @@ read-any-spec =
     tie.close
     (tie.spec
     (λ c. search needs)
-    (λ c κs. new-room (c .before .before .before .before .args .bundle .now) MOST-ROWS 1 (λ header few. few))
+    (λ c κs. new-room (c .before .before .before .before .args .bundle .now) MOST-ROWS 0 (λ header few. few))
     (λ c. search needs)
     (λ c.
     let few = opened c .few in

@@ -1,0 +1,144 @@
+// Opening a session bundle: its refusals, its rows as words, and its pool. A table for the rows is made of zeros, which are
+// filled in quickest; only what was read into it is looked at.
+ghost use mathlib.Core.Path.{_≡_};
+ghost use mathlib.Core.Option.{some};
+ghost use Prim.Native.Nat.{ℕ, _≤_, _<_};
+ghost use lib.ListN.{length, drop};
+ghost use Rattle.rules.specs.Refusals.{verdict};
+ghost use Rattle.rules.specs.declared.Refusal.{Refusal};
+ghost use Rattle.bundles.specs.Bundles.{HEADER, poolStart, bundleRows, bundlePoolLength, wrongMark, otherVersion, badLengths};
+ghost use Rattle.bundles.specs.Opening.{openingRefusal, HasRoom, Opens};
+ghost use Rattle.bundle_opening.specs.declared.Opened.{Opened};
+use bundles::HEADER;
+use bundles::ROW_BYTES;
+use rules::Checked;
+use rules::Refusal;
+
+// What opening a bundle answers: how many rows it has.
+pub enum Opened {
+    Rows(usize),
+    Refused(Refusal),
+}
+
+// Opens a bundle: reads its rows into the start of a table that has room for them. Refuses with 30 to 32, and
+// with 1 for more rows or pool bytes than there may be.
+pub fn read_rows(bundle: &[u8], table: &mut [u32]) -> Opened
+    requires { ⌜ HasRoom (now bundle) (now table) ⌝ }
+    ensures { λ r. ⌜ ((n : ℕ) → r ≡ Opened.Rows n → Opens (now (bundle .entry)) (now (table .exit)) n) ⌝ }
+    ensures { λ r. ⌜ ((x : Refusal) → r ≡ Opened.Refused x → openingRefusal (now (bundle .entry)) ≡ some x) ⌝ }
+{
+    match judge(bundle) {
+        Checked::Accepted => {
+            let rows = row_count(bundle);
+            little_endian::read_words(&bundle[HEADER..], table, rules::WIDTH * rows);
+            Opened::Rows(rows)
+        }
+        Checked::Refused(x) => Opened::Refused(x),
+    }
+}
+
+// The row count that a bundle names, 0 where its bytes end before the rows.
+pub fn rows_named(bundle: &[u8]) -> usize
+    ensures { λ r. ⌜ (HEADER ≤ length (now (bundle .entry)) → r ≡ bundleRows (now (bundle .entry))) ⌝ }
+{
+    if bundle.len() < HEADER {
+        return 0;
+    }
+    row_count(bundle)
+}
+
+// The pool length that a bundle names, 0 where its bytes end before the rows.
+pub fn bytes_named(bundle: &[u8]) -> usize
+    ensures { λ r. ⌜ (HEADER ≤ length (now (bundle .entry)) → r ≡ bundlePoolLength (now (bundle .entry))) ⌝ }
+{
+    if bundle.len() < HEADER {
+        return 0;
+    }
+    pool_length(bundle)
+}
+
+// The pool of a bundle of so many rows.
+pub fn pool(bundle: &[u8], rows: usize) -> &[u8]
+    requires { ⌜ poolStart rows ≤ length (now bundle) ⌝ }
+    ensures { λ r. ⌜ now r ≡ drop (poolStart rows) (now (bundle .entry)) ⌝ }
+{
+    &bundle[HEADER + ROW_BYTES * rows..]
+}
+
+// Refusals 30 to 32, and 1.
+fn judge(bundle: &[u8]) -> Checked
+    ensures { λ r. ⌜ r ≡ verdict (openingRefusal (now (bundle .entry))) ⌝ }
+{
+    if wrong_mark(bundle) {
+        return Checked::Refused(Refusal::Mark);
+    }
+    if other_version(bundle) {
+        return Checked::Refused(Refusal::Version);
+    }
+    if bad_lengths(bundle) {
+        return Checked::Refused(Refusal::Lengths);
+    }
+    if row_count(bundle) > rules::MOST_ROWS {
+        return Checked::Refused(Refusal::Size);
+    }
+    if pool_length(bundle) > rules::MOST_BYTES {
+        return Checked::Refused(Refusal::Size);
+    }
+    Checked::Accepted
+}
+
+// 30: another mark, or the bytes end before it is whole.
+fn wrong_mark(bundle: &[u8]) -> bool
+    ensures { λ r. ⌜ r ≡ wrongMark (now (bundle .entry)) ⌝ }
+{
+    if bundle.len() < 3 {
+        return true;
+    }
+    !names::same(&bundle[..3], &bundles::MARK)
+}
+
+// 31: another version, or the bytes end before it is whole.
+fn other_version(bundle: &[u8]) -> bool
+    ensures { λ r. ⌜ r ≡ otherVersion (now (bundle .entry)) ⌝ }
+{
+    if bundle.len() < 5 {
+        return true;
+    }
+    !names::same(&bundle[3..5], &bundles::VERSION)
+}
+
+// 32: the bytes end before the rows, a zero byte that is not zero, or lengths that disagree.
+fn bad_lengths(bundle: &[u8]) -> bool
+    ensures { λ r. ⌜ r ≡ badLengths (now (bundle .entry)) ⌝ }
+{
+    if bundle.len() < HEADER {
+        return true;
+    }
+    if bundle[5] != 0 {
+        return true;
+    }
+    bundle.len() != HEADER + ROW_BYTES * row_count(bundle) + pool_length(bundle)
+}
+
+// The row count that a bundle names.
+fn row_count(bundle: &[u8]) -> usize
+    requires { ⌜ HEADER ≤ length (now bundle) ⌝ }
+    ensures { λ r. ⌜ (r ≡ bundleRows (now (bundle .entry))) × (r < 4294967296) ⌝ }
+{
+    wide(little_endian::short(bundle, 6))
+}
+
+// The pool length that a bundle names.
+fn pool_length(bundle: &[u8]) -> usize
+    requires { ⌜ HEADER ≤ length (now bundle) ⌝ }
+    ensures { λ r. ⌜ (r ≡ bundlePoolLength (now (bundle .entry))) × (r < 4294967296) ⌝ }
+{
+    wide(little_endian::word(bundle, 8))
+}
+
+// A number of the bundle as a length.
+fn wide(x: u32) -> usize
+    ensures { λ r. ⌜ (r ≡ x) × (r < 4294967296) ⌝ }
+{
+    x as usize
+}

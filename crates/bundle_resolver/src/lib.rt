@@ -1,0 +1,63 @@
+// One lookup for every question over the bytes of a session bundle, whose rows are read into a table of its own: a small one for
+// a bundle of few rows and a short pool.
+ghost use mathlib.Core.Path.{_≡_};
+ghost use Rattle.checker.specs.Lent.{FEW-ROWS};
+ghost use Rattle.bundles.specs.Operations.{bundleLookup};
+ghost use Rattle.bundles.specs.Opening.{NamesAtMost};
+use bundle_opening::Opened;
+use rules::Bound;
+use rules::Question;
+use rules::Row;
+
+// The words of the largest table, and of a small one.
+const WORDS: usize = rules::WIDTH * rules::MOST_ROWS;
+
+const FEW_WORDS: usize = rules::WIDTH * checker::FEW_ROWS;
+
+// The answer to any of the questions.
+pub fn lookup(bundle: &[u8], row: Row, question: Question, query: &[u8]) -> Bound
+    ensures { λ r. ⌜ r ≡ bundleLookup question (now (bundle .entry)) (row .0) (now (query .entry)) ⌝ }
+{
+    if bundle_opening::rows_named(bundle) > checker::FEW_ROWS {
+        return lookup_any(bundle, row, question, query);
+    }
+    if bundle_opening::bytes_named(bundle) > checker::FEW_BYTES {
+        return lookup_any(bundle, row, question, query);
+    }
+    lookup_few(bundle, row, question, query)
+}
+
+// The answer from any bundle. Two places call it, so that it keeps its arrays, which are large, to itself.
+fn lookup_any(bundle: &[u8], row: Row, question: Question, query: &[u8]) -> Bound
+    ensures { λ r. ⌜ r ≡ bundleLookup question (now (bundle .entry)) (row .0) (now (query .entry)) ⌝ }
+{
+    let mut table = [0; WORDS];
+    match bundle_opening::read_rows(bundle, &mut table) {
+        Opened::Rows(n) => resolver::lookup(
+            &table[..rules::WIDTH * n],
+            bundle_opening::pool(bundle, n),
+            row,
+            question,
+            query,
+        ),
+        Opened::Refused(x) => Bound::Refused(x),
+    }
+}
+
+// The answer from a bundle of few rows.
+fn lookup_few(bundle: &[u8], row: Row, question: Question, query: &[u8]) -> Bound
+    requires { ⌜ NamesAtMost (now bundle) FEW-ROWS ⌝ }
+    ensures { λ r. ⌜ r ≡ bundleLookup question (now (bundle .entry)) (row .0) (now (query .entry)) ⌝ }
+{
+    let mut table = [0; FEW_WORDS];
+    match bundle_opening::read_rows(bundle, &mut table) {
+        Opened::Rows(n) => resolver::lookup_few(
+            &table[..rules::WIDTH * n],
+            bundle_opening::pool(bundle, n),
+            row,
+            question,
+            query,
+        ),
+        Opened::Refused(x) => Bound::Refused(x),
+    }
+}

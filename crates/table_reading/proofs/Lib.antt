@@ -1,0 +1,2 @@
+-- Copied: what a read answers and leaves.
+pub mod Copied
