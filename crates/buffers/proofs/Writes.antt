@@ -9,7 +9,7 @@ use native.Mathlib.Omega.{arith}
 use lib.Dec.{ltb}
 use borrow.Author.Tests.{ltb-true, ltb-false}
 use Rattle.rules.proofs.Lists.{by-cases}
-use lib.ListN.{length, getD, take, drop, set, replicate, length-set, length-append, length-drop, take-append-drop}
+use lib.ListN.{length, getD, take, drop, set, replicate, length-set, length-append, length-drop}
 use lib.Seq.{take-all, take-length, take-suc-set, take-append-seam, getD-append-seam, append-snoc, length-take-le, take-at, drop-at, drop-drop, paste, paste-suc}
 use Rattle.buffers.specs.Writes.{written, cleared, Put}
 
@@ -71,23 +71,35 @@ written-behind t at a b h =
     ∙ ap (λ (l : List ℕ). l ++ drop (at + length a + length b) t) (append-assoc (take at t) a b)
     ∙ ap (λ (n : ℕ). take at t ++ (a ++ b) ++ drop n t) size
 
--- Nothing more is put, and what is put behind what was put is one longer list.
-pub written-nothing : (t : List ℕ) (at : ℕ) → written t at [] ≡ t
-written-nothing t at =
-    ap (λ (l : List ℕ). l ++ drop (at + 0) t) (append-nil (take at t))
-    ∙ ap (λ (k : ℕ). take at t ++ drop k t) (add-zero at)
-    ∙ take-append-drop at t
-
+-- Nothing is put.
 pub put-nothing : (t : List ℕ) (at : ℕ) → Put t at [] at t
-put-nothing t at = record { size = refl; fits = λ h. (sym (add-zero at), sym (written-nothing t at)); past = λ h. omega arith }
+put-nothing t at = record { size = refl; fits = λ h. (sym (add-zero at), sym (append-nil (take at t))); past = λ h. omega arith }
 
 -- What starts past the end does not fit.
 pub put-past : (t : List ℕ) (at : ℕ) (l : List ℕ) → length t < at → Put t at l at t
 put-past t at l h = record { size = refl; fits = λ k. absurd (omega arith); past = λ k. h }
 
-pub put-fits : (t : List ℕ) (at : ℕ) (l : List ℕ) {r : ℕ} {t′ : List ℕ} → at + length l ≤ length t → r ≡ at + length l → t′ ≡ written t at l → Put t at l r t′
-put-fits t at l h e w = record { size = ap length w ∙ length-written t at l h; fits = λ k. (e, w); past = λ k. absurd (omega arith) }
+-- The front of what is written is put.
+pub put-front : (t : List ℕ) (at : ℕ) (l more : List ℕ) {r : ℕ} {t′ : List ℕ} → at + length (l ++ more) ≤ length t → r ≡ at + length l → t′ ≡ written t at (l ++ more) → Put t at l r t′
+put-front t at l more {r} {t′} h e w =
+    let front = take at t ++ l in
+    let rest = drop (at + length (l ++ more)) t in
+    let sum : length (l ++ more) ≡ length l + length more = length-append l more in
+    let seam : length front ≡ at + length l = length-append (take at t) l ∙ ap (λ (n : ℕ). n + length l) (length-take-le at t (omega (arith, sum))) in
+    let split : written t at (l ++ more) ≡ front ++ (more ++ rest) =
+    ap (λ (m : List ℕ). m ++ rest) (sym (append-assoc (take at t) l more)) ∙ append-assoc front more rest in
+    record {
+      size = ap length w ∙ length-written t at (l ++ more) h;
+      fits = λ k. (e, rw (w, e, split) (take-at front (more ++ rest) (at + length l) seam));
+      past = λ k. absurd (omega (arith, sum));
+    }
 
+pub put-fits : (t : List ℕ) (at : ℕ) (l : List ℕ) {r : ℕ} {t′ : List ℕ} → at + length l ≤ length t → r ≡ at + length l → t′ ≡ written t at l → Put t at l r t′
+put-fits t at l {r} {t′} h e w =
+    let same : l ++ [] ≡ l = append-nil l in
+    put-front t at l [] (rw same h) e (rw same w)
+
+-- What is put behind what was put is one longer list.
 pub put-behind : {t : List ℕ} {at : ℕ} {a b : List ℕ} {r r′ : ℕ} {t′ t″ : List ℕ} → Put t at a r t′ → Put t′ r b r′ t″ → Put t at (a ++ b) r′ t″
 put-behind {t} {at} {a} {b} {r} {r′} {t′} {t″} p q =
     let size : at + length (a ++ b) ≡ at + length a + length b = rw length-append (omega arith) in
@@ -96,7 +108,7 @@ put-behind {t} {at} {a} {b} {r} {r′} {t′} {t″} p q =
       fits = λ h.
           let first = p .fits (omega arith) in
           let second = q .fits (omega (arith, first .0, p .size)) in
-          (second .0 ∙ rw (first .0) (sym size), second .1 ∙ rw (first .1, first .0) (written-behind t at a b (omega arith)));
+          (second .0 ∙ rw (first .0) (sym size), second .1 ∙ ap (λ (l : List ℕ). l ++ b) (first .1) ∙ append-assoc (take at t) a b);
       past = λ h.
           by-cases (ltb (length t) (at + length a))
           (λ e. let past = p .past (ltb-true (length t) (at + length a) e) in let further = q .past (omega (arith, past, p .size)) in omega (arith, further, p .size))

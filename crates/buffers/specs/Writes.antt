@@ -28,8 +28,9 @@ fieldIn pool place =
 abbrev pub declarationWords : ℕ → Place → Place → List ℕ
 declarationWords owner prefix uri = wordsOf (newDeclaration owner (fieldIn [] prefix) (fieldIn [] uri))
 
--- A list put from an index on: if it fits, where it ends, and the buffer with it. If not, what is answered is past the buffer's end.
+-- A list put from an index on, behind what stands there: if it fits, where it ends, and the buffer up to there; what is behind that
+-- may have changed. If it does not fit, what is answered is past the buffer's end, and nothing else is told.
 pub record Put (buffer : List ℕ) (at : ℕ) (l : List ℕ) (end : ℕ) (buffer′ : List ℕ) : Type 0 where
   pub size : length buffer′ ≡ length buffer
-  pub fits : at + length l ≤ length buffer → (end ≡ at + length l) × (buffer′ ≡ written buffer at l)
+  pub fits : at + length l ≤ length buffer → (end ≡ at + length l) × (take end buffer′ ≡ take at buffer ++ l)
   pub past : length buffer < at + length l → length buffer < end

@@ -10,10 +10,6 @@ use rules::Offset;
 use rules::Place;
 use rules::Row;
 
-// Fills arrays of words of which only what was stored later is read. Its bytes are not alike, so that it is filled in by wide
-// stores and not by a string instruction.
-pub const UNREAD: u32 = 1;
-
 // Copies a table to the start of another.
 pub fn copy_words(source: &[u32], table: &mut [u32])
     requires { ⌜ length (now source) ≤ length (now table) ⌝ }

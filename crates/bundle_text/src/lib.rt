@@ -5,7 +5,7 @@ ghost use lib.ListN.{length};
 ghost use Rattle.checker.specs.Lent.{FEW-ROWS};
 ghost use Rattle.bundles.specs.Opening.{NamesAtMost};
 ghost use Rattle.markup.specs.Writing.{bundleText};
-use bundles::Opened;
+use bundle_opening::Opened;
 use rules::Row;
 use rules::Written;
 
@@ -20,24 +20,25 @@ pub fn write_xml(bundle: &[u8], row: Row, out: &mut [u8]) -> Written
     ensures { λ r. ⌜ r ≡ bundleText (now (bundle .entry)) (row .0) (length (now (out .entry))) .answer ⌝ }
     ensures { λ _. ⌜ now (out .exit) ≡ bundleText (now (bundle .entry)) (row .0) (length (now (out .entry))) .bytes ⌝ }
 {
-    if bundles::rows_named(bundle) > checker::FEW_ROWS {
+    if bundle_opening::rows_named(bundle) > checker::FEW_ROWS {
         return write_any(bundle, row, out);
     }
-    if bundles::bytes_named(bundle) > bundles::SHORT_POOL {
+    if bundle_opening::bytes_named(bundle) > checker::FEW_BYTES {
         return write_any(bundle, row, out);
     }
     write_few(bundle, row, out)
 }
 
-// Writes the text from any bundle. Two places call it, so that it keeps its arrays, which are large, to itself.
+// Writes the text from any bundle. Two places call it, and it alone calls `writer::write`, so that it keeps its
+// arrays, which are large, to itself.
 fn write_any(bundle: &[u8], row: Row, out: &mut [u8]) -> Written
     ensures { λ r. ⌜ r ≡ bundleText (now (bundle .entry)) (row .0) (length (now (out .entry))) .answer ⌝ }
     ensures { λ _. ⌜ now (out .exit) ≡ bundleText (now (bundle .entry)) (row .0) (length (now (out .entry))) .bytes ⌝ }
 {
-    let mut table = [buffers::UNREAD; WORDS];
-    match bundles::read_rows(bundle, &mut table) {
+    let mut table = [0; WORDS];
+    match bundle_opening::read_rows(bundle, &mut table) {
         Opened::Rows(n) => {
-            let pool = bundles::pool(bundle, n);
+            let pool = bundle_opening::pool(bundle, n);
             writer::write(&table[..rules::WIDTH * n], pool, row, out)
         }
         Opened::Refused(x) => bundles::refuse(out, x),
@@ -51,10 +52,10 @@ fn write_few(bundle: &[u8], row: Row, out: &mut [u8]) -> Written
     ensures { λ _. ⌜ now (out .exit) ≡ bundleText (now (bundle .entry)) (row .0) (length (now (out .entry))) .bytes ⌝ }
 {
     let mut words = [0; FEW_WORDS];
-    match bundles::read_rows(bundle, &mut words) {
+    match bundle_opening::read_rows(bundle, &mut words) {
         Opened::Rows(n) => {
-            let pool = bundles::pool(bundle, n);
-            writer::write(&words[..rules::WIDTH * n], pool, row, out)
+            let pool = bundle_opening::pool(bundle, n);
+            writer::write_few(&words[..rules::WIDTH * n], pool, row, out)
         }
         Opened::Refused(x) => bundles::refuse(out, x),
     }

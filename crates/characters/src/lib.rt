@@ -49,7 +49,7 @@ fn is_control(b: u8) -> bool
 }
 
 // At byte i a forbidden character starts.
-fn starts_forbidden(value: &[u8], i: usize) -> bool
+pub fn starts_forbidden(value: &[u8], i: usize) -> bool
     requires { ⌜ i < length (now value) ⌝ }
     ensures { λ r. ⌜ r ≡ startsForbidden (drop i (now (value .entry))) ⌝ }
 {

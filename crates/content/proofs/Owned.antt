@@ -1,7 +1,7 @@
 -- The attributes and declarations of an element, put one behind the other along the links.
 -- Assumes nothing.
 use Prim.Native.Nat.{ℕ, zero, suc, _+_, _≤_, _<_}
-use mathlib.Core.Path.{_≡_, refl, sym, ap, _∙_}
+use mathlib.Core.Path.{_≡_, refl, sym, ap, subst, _∙_}
 use mathlib.Core.Bool.{Bool, true}
 use mathlib.Core.List.{List, [], _∷_, _++_, map}
 use native.Mathlib.Omega.{arith}
@@ -69,17 +69,20 @@ module _ (table pool : List ℕ) where
             let none : position ≡ 0 = omega arith in
             l .rest (rw (none, rows-end (isUnder true table) n e) (put-nothing out to))
 
-        module _ (h : 0 < position) (next : ℕ) (link : next ≡ noteAt links (before position) (FIRST + 1)) where
-          pub left-later : 0 < next → position < next
-          left-later = next-later (isUnder true table) FIRST links n (linked .owned) e row position h (l .reached) next link
+        module _ (h : 0 < position) {r : ℕ} (there : r ≡ before position) (next : ℕ) (link : next ≡ noteAt links r (FIRST + 1)) where
+          link-there : next ≡ noteAt links (before position) (FIRST + 1)
+          link-there = link ∙ ap (λ x. noteAt links x (FIRST + 1)) there
 
-          pub left-next : {out′ : List ℕ} {to′ : ℕ} → Put out to (shown position) to′ out′ → Left linked row out₀ at out′ to′ next
-          left-next p =
-              let more = rows-next (isUnder true table) FIRST links n (linked .owned) e row position h (l .reached) next link in
+          pub left-later : 0 < next → position < next
+          left-later = next-later (isUnder true table) FIRST links n (linked .owned) e row position h (l .reached) next link-there
+
+          pub left-next : {out′ : List ℕ} {to′ : ℕ} → Put out to (attributeMarkup (writtenAttribute (nodeAt table pool r))) to′ out′ → Left linked row out₀ at out′ to′ next
+          left-next {out′} {to′} p =
+              let more = rows-next (isUnder true table) FIRST links n (linked .owned) e row position h (l .reached) next link-there in
               record {
-                reached = reach-next (isUnder true table) FIRST links n (linked .owned) e row position h (l .reached) next link;
+                reached = reach-next (isUnder true table) FIRST links n (linked .owned) e row position h (l .reached) next link-there;
                 size = p .size ∙ l .size;
-                rest = λ q. l .rest (rw more (put-behind p q));
+                rest = λ q. l .rest (rw more (put-behind (subst (λ x. Put out to (attributeMarkup (writtenAttribute (nodeAt table pool x))) to′ out′) there p) q));
               }
 
 pub start-put :

@@ -223,39 +223,43 @@ module _ (table pool links : List ℕ) where
                 left = left-next (end e) (rest (depth - 1) owner next) out-step (l .left) p;
               }
 
-      module _ (h : 0 < position) where
-        pub inside-row : before position < n
-        inside-row = inner linked depth e (l .row) position h (l .here)
+      module _ (h : 0 < position) {r : ℕ} (there : r ≡ before position) where
+        pub inside-row : r < n
+        inside-row = rw there (inner linked depth e (l .row) position h (l .here))
 
         -- To an element.
-        module _ (is : word table (before position) TYPE ≡ ELEMENT) where
-          pub in-same : rest depth e position ≡ opened (suc depth) (before position)
-          in-same = rest-in linked depth e (l .row) position h (l .here) is
+        module _ (is : word table r TYPE ≡ ELEMENT) where
+          pub in-same : rest depth e position ≡ opened (suc depth) r
+          in-same = rest-in linked depth e (l .row) position h (l .here) (subst (λ x. word table x TYPE ≡ ELEMENT) there is) ∙ ap (λ x. opened (suc depth) x) (sym there)
 
-          pub inside-in : Under (suc depth) (before position)
+          pub inside-in : Under (suc depth) r
           inside-in =
-              let r = before position in
               let place : position ≡ r + 1 = omega arith in
-              let owner : e ≡ parent r = sym (parent-is table pool links linked e position (l .here .own h)) in
+              let owner : e ≡ parent r = sym (ap (λ x. parent x) there ∙ parent-is table pool links linked e position (l .here .own h)) in
               let own : isUnder false table (parent r) (r + 1) ≡ true =
               ap (λ x. isUnder false table x (r + 1)) (sym owner) ∙ ap (λ x. isUnder false table e x) (sym place) ∙ l .here .own h in
               (subst (λ x. x < n) owner (l .row), own, subst (λ x. Under depth x) owner (l .under))
 
         -- Over a text.
-        module _ (other : word table (before position) TYPE ≡ ELEMENT → ⊥) (next : ℕ) (link : next ≡ noteAt links (before position) (LATEST + 1)) where
+        module _ (other : word table r TYPE ≡ ELEMENT → ⊥) (next : ℕ) (link : next ≡ noteAt links r (LATEST + 1)) where
+          link-there : next ≡ noteAt links (before position) (LATEST + 1)
+          link-there = link ∙ ap (λ x. noteAt links x (LATEST + 1)) there
+
           over-step : rest depth e position ≡ escaped false (nodeAt table pool (before position) .value .bytes) ∷ rest depth e next
-          over-step = rest-over linked depth e (l .row) position h (l .here) next link other
+          over-step = rest-over linked depth e (l .row) position h (l .here) next link-there (λ z. other (subst (λ x. word table x TYPE ≡ ELEMENT) (sym there) z))
 
           pub over-less : length (rest depth e next) < length (rest depth e position)
           over-less = rw over-step (omega arith)
 
-          pub inside-over : {out′ : List ℕ} {to′ : ℕ} → Put out to (escaped false (nodeAt table pool (before position) .value .bytes)) to′ out′ → Inside all out₀ at out′ to′ e depth next
-          inside-over p =
+          pub inside-over : {out′ : List ℕ} {to′ : ℕ} → Put out to (escaped false (nodeAt table pool r .value .bytes)) to′ out′ → Inside all out₀ at out′ to′ e depth next
+          inside-over {out′} {to′} p =
               record {
                 row = l .row;
                 under = l .under;
-                here = here-next table pool links linked e (l .row) position h (l .here) next link;
-                left = left-next (escaped false (nodeAt table pool (before position) .value .bytes)) (rest depth e next) over-step (l .left) p;
+                here = here-next table pool links linked e (l .row) position h (l .here) next link-there;
+                left =
+                    left-next (escaped false (nodeAt table pool (before position) .value .bytes)) (rest depth e next) over-step (l .left)
+                    (subst (λ x. Put out to (escaped false (nodeAt table pool x .value .bytes)) to′ out′) there p);
               }
 
     -- The element that is reached is the next to put.

@@ -7,6 +7,7 @@ ghost use Rattle.markup.specs.Trees.{qualifiedName, writtenAttributes, writtenT
 ghost use Rattle.markup.specs.Markup.{attributeMarkup, startTag, markup};
 ghost use Rattle.tags.specs.Marks.{Marked, Pooled};
 ghost use Rattle.content.specs.Content.{Linked};
+use rules::Position;
 use rules::Row;
 
 // The markup of an element: into it and into each element that it holds, and out of it again, along the links. Behind a start tag
@@ -43,7 +44,7 @@ pub fn put_element(
                 position = children::next(links, Row(element), false).0;
                 element = rows::parent(table, Row(element)).0;
             } else {
-                let inner = Row(position as u32 - 1);
+                let inner = notes::row_at(Position(position));
                 if rows::kind(table, inner) == rules::ELEMENT {
                     element = inner.0;
                     break;
@@ -97,7 +98,7 @@ fn put_owned(
     let mut to = at;
     let mut position = children::first(links, Row(element), true).0;
     while position > 0 {
-        let owned = Row(position as u32 - 1);
+        let owned = notes::row_at(Position(position));
         to = tags::put_attribute(table, pool, links, runs, out, to, owned);
         position = children::next(links, owned, true).0;
     }

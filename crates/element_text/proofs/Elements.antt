@@ -10,8 +10,8 @@ use native.Mathlib.Omega.{arith}
 use native.Mathlib.Nat.{zero-add}
 use borrow.Author.Tests.{eqb-true, ltb-true, ltb-false}
 use lib.Dec.{eqb, ltb}
-use lib.ListN.{length, getD, set, take, drop, replicate, length-replicate, length-set, getD-replicate, List·getD-eq-default}
-use lib.Seq.{take-append-seam, getD-set-same, getD-set-other}
+use lib.ListN.{length, getD, set, take, replicate, length-replicate, length-set, getD-replicate, List·getD-eq-default}
+use lib.Seq.{getD-set-same, getD-set-other}
 use mir.Val.{boolByte}
 use Rattle.rules.specs.Lists.{allOf, isOneOf}
 use Rattle.rules.specs.Table.{NONE, MOST-ROWS, MOST-BYTES, TYPE, PARENT, nodes, node, nodeAt, rowCount, word}
@@ -25,7 +25,6 @@ use Rattle.rules.proofs.Accepted.{unrefused, few-rows, parent-falls, FieldsAcce
 use Rattle.rows.proofs.Words.{parent-word}
 use Rattle.notes.specs.Notes.{NOTES, LATEST, FIRST, noteAt}
 use Rattle.buffers.specs.Writes.{cleared, Put}
-use Rattle.buffers.proofs.Writes.{written-from-start}
 use Rattle.bundles.specs.Operations.{WriteOutcome, writeRefused, writeDone}
 use Rattle.runs.specs.Runs.{isPlain}
 use Rattle.children.specs.Children.{kinds, isUnder, firstWord, Listed}
@@ -123,7 +122,7 @@ module _ (out₀ text : List ℕ) (end : ℕ) (out : List ℕ) (put : Put out₀
       (λ t.
       let within = put .fits (omega (arith, ltb-false (length out₀) (length text) t)) in
       let size : end ≡ length text = within .0 ∙ zero-add (length text) in
-      let front : take (length text) out ≡ text = ap (take (length text)) (within .1 ∙ written-from-start out₀ text) ∙ take-append-seam text (drop (length text) out₀) in
+      let front : take (length text) out ≡ text = ap (λ k. take k out) (sym size) ∙ within .1 in
       rw t (ap Written.Done size, is ∙ rw (size, put .size) (ap (λ l. l ++ replicate (length out₀ - length text) 0) front)))
 
   pub text-past : length out < end → {answer : Written} {out′ : List ℕ} → Leaves (writeRefused (length out) Refusal.TextRoom) answer out′ → Leaves (fitted (length out₀) text) answer out′

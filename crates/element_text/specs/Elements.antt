@@ -14,10 +14,6 @@ use Rattle.markup.specs.Markup.{markup}
 use Rattle.tags.specs.Marks.{Marked, Pooled}
 use Rattle.content.specs.Content.{Linked}
 
--- the bytes of a short pool
-abbrev pub FEW-BYTES : ℕ
-FEW-BYTES = 4096
-
 -- A text in an output of so many bytes, or 22.
 unfoldable pub fitted : ℕ → List ℕ → WriteOutcome
 fitted size text = unlessRefused (refusedIf (ltb size (length text)) Refusal.TextRoom) (writeRefused size) (writeDone size text)

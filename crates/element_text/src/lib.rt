@@ -2,23 +2,20 @@
 ghost use mathlib.Core.Path.{_≡_};
 ghost use mathlib.Core.List.{[]};
 ghost use mathlib.Core.Option.{none};
-ghost use Prim.Native.Nat.{ℕ, _≤_, _<_};
+ghost use Prim.Native.Nat.{ℕ, _*_, _≤_, _<_};
 ghost use lib.ListN.{length, set};
 ghost use mir.Val.{boolByte};
 ghost use Rattle.rules.specs.Table.{MOST-ROWS, MOST-BYTES, rowCount};
 ghost use Rattle.rules.specs.Refusals.{checkRefusal};
 ghost use Rattle.checker.specs.Lent.{FEW-ROWS};
 ghost use Rattle.tags.specs.Marks.{PLAIN};
-ghost use Rattle.element_text.specs.Elements.{FEW-BYTES, fitted, elementText, Clear, AtHand};
+ghost use Rattle.element_text.specs.Elements.{fitted, elementText, Clear, AtHand};
 use rules::Refusal;
 use rules::Row;
 use rules::Written;
 
-// The bytes of a short pool.
-pub const FEW_BYTES: usize = 4096;
-
 // What clearing the lengths of the runs of any pool costs, in bytes that are looked at.
-const CLEARING: usize = 4096;
+const CLEARING: usize = 8192;
 
 // Writes the text of an element of a table that the check accepts; the rest of the output is zero. Where the text does not fit:
 // refusal 22, and all is zero.
@@ -30,25 +27,22 @@ pub fn write_any(table: &[u32], pool: &[u8], row: Row, out: &mut [u8]) -> Writte
 {
     let mut links = [0; checker::NOTES];
     if prepare(table, pool, &mut links) {
-        let mut runs = [0; rules::MOST_BYTES];
+        let mut runs = [0; 2 * rules::MOST_BYTES];
         return write_measured(table, pool, row, &links, &mut runs, out);
     }
     write_marked(table, pool, row, &links, &[0; 0], out)
 }
 
-// The same in small arrays, of a table of few rows and a short pool.
+// The same in small arrays, of a table of few rows. Runs are not measured, so it is meant for a short pool.
 pub fn write_few(table: &[u32], pool: &[u8], row: Row, out: &mut [u8]) -> Written
     requires { ⌜ checkRefusal (now table) (now pool) ≡ none ⌝ }
     requires { ⌜ row .0 < rowCount (now table) ⌝ }
-    requires { ⌜ (rowCount (now table) ≤ FEW-ROWS) × (length (now pool) ≤ FEW-BYTES) ⌝ }
+    requires { ⌜ rowCount (now table) ≤ FEW-ROWS ⌝ }
     ensures { λ r. ⌜ r ≡ fitted (length (now (out .entry))) (elementText (now (table .entry)) (now (pool .entry)) (row .0)) .answer ⌝ }
     ensures { λ _. ⌜ now (out .exit) ≡ fitted (length (now (out .entry))) (elementText (now (table .entry)) (now (pool .entry)) (row .0)) .bytes ⌝ }
 {
     let mut links = [0; checker::SMALL_NOTES];
-    if prepare(table, pool, &mut links) {
-        let mut runs = [0; FEW_BYTES];
-        return write_measured(table, pool, row, &links, &mut runs, out);
-    }
+    prepare(table, pool, &mut links);
     write_marked(table, pool, row, &links, &[0; 0], out)
 }
 
@@ -104,7 +98,7 @@ fn write_measured(
     runs: &mut [u16],
     out: &mut [u8],
 ) -> Written
-    requires { ⌜ (length (now pool) ≤ MOST-BYTES) × (length (now pool) ≤ length (now runs)) ⌝ }
+    requires { ⌜ (length (now pool) ≤ MOST-BYTES) × (2 * length (now pool) ≤ length (now runs)) ⌝ }
     requires { ⌜ AtHand (now table) (now pool) (now links) [] (row .0) ⌝ }
     ensures { λ r. ⌜ r ≡ fitted (length (now (out .entry))) (elementText (now (table .entry)) (now (pool .entry)) (row .0)) .answer ⌝ }
     ensures { λ _. ⌜ now (out .exit) ≡ fitted (length (now (out .entry))) (elementText (now (table .entry)) (now (pool .entry)) (row .0)) .bytes ⌝ }

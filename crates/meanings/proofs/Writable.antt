@@ -30,12 +30,15 @@ use Rattle.scopes.proofs.Definitions.{tree-accepted}
 use Rattle.bindings.specs.Asking.{elementSettled, attributeSettled}
 use Rattle.markup.specs.Writing.{inSubtree, lowestRow, hasNoMarkup, isUndeclared, nearer, isInherited}
 use Rattle.subtree.proofs.Flags.{in-none}
-use Rattle.row_meanings.specs.Tests.{isTop, isLeaf, isWritable}
-use Rattle.row_meanings.specs.Outward.{Near, Noted}
-use Rattle.row_meanings.proofs.Outward.{stands-outside, noted-kept, noted-leaf, noted-next, xml-kept}
-use Rattle.meanings.specs.Names.{Walkable, undeclared}
+use Rattle.inheritance.specs.Tests.{isTop}
+use Rattle.near_rows.specs.Outward.{isLeaf, Near, Noted}
+use Rattle.near_rows.proofs.Outward.{stands-outside, noted-kept, noted-leaf, noted-next, xml-kept}
+use Rattle.row_meanings.specs.Tests.{isWritable}
+use Rattle.unsettled.specs.Walkable.{Walkable}
+use Rattle.unsettled.proofs.Walking.{is-accepted, few, ready, walkable-kept, walkable-moved, element-is, attribute-is}
+use Rattle.meanings.specs.Names.{undeclared}
 use Rattle.meanings.specs.Writable.{Writable}
-use Rattle.meanings.proofs.Names.{is-accepted, few, ready, walkable-kept, walkable-moved, in-kinds, element-is, attribute-is}
+use Rattle.meanings.proofs.Names.{owned}
 
 -- No rule lets a row lie in a text or a declaration.
 leafless : (type : ℕ) (rule : ParentRule) → parentRule type ≡ some rule → (isOneOf (rule .parents) TEXT || isOneOf (rule .parents) DECLARATION) ≡ false
@@ -121,14 +124,14 @@ module _ {table pool notes tops path : List ℕ} (w : Walkable table pool notes 
         let kind = eqb-true (word table r TYPE) ELEMENT t in
         let here = standing (rw kind refl) in
         let settled : elementSettled notes tops path r ≡ true = rw t at told in
-        rw (i, in-kinds w (r + 1) here r below, t) (ap not (sym (element-is w (r + 1) here r below t (rw t refl)) ∙ settled)))
+        rw (i, type-word table pool r below, t) (ap not (sym (element-is w (r + 1) here r below (rw t refl) t) ∙ settled)))
         (λ t.
         by-cases (eqb (word table r TYPE) ATTRIBUTE)
         (λ u.
         let kind = eqb-true (word table r TYPE) ATTRIBUTE u in
         let here = stands-outside table notes r below (attribute-bare r below kind) tops path (ready w) (standing (rw kind refl)) in
         let settled : attributeSettled notes tops path r ≡ true = rw (t, u) at told in
-        rw (i, in-kinds w (up table (r + 1)) here r below, t, u) (ap not (sym (attribute-is w (up table (r + 1)) here r below e element i t u (rw t refl)) ∙ settled)))
+        rw (i, type-word table pool r below, t, u) (ap not (sym (attribute-is w (up table (r + 1)) here r below (rw t refl) t u (owned w e element r below i (type-word table pool r below ∙ kind))) ∙ settled)))
         (λ u. rw (i, type-word table pool r below, t, u) refl)))
         (λ i. rw i refl)
 

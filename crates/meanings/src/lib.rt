@@ -10,27 +10,27 @@ ghost use Rattle.rules.specs.Table.{MOST-ROWS, TYPE, rowCount, nodes, node, wor
 ghost use Rattle.rules.specs.Refusals.{firstRefusal, verdict};
 ghost use Rattle.rules.specs.declared.Refusal.{Refusal};
 ghost use Rattle.notes.specs.Notes.{NOTES, LOCAL-NAME, noteAt};
-ghost use Rattle.scopes.specs.Standing.{Standing, Ready};
-ghost use Rattle.stacks.specs.Stacks.{TOPS, NUMBERED, underAt, Untouched};
+ghost use Rattle.scopes.specs.Standing.{Standing};
+ghost use Rattle.stacks.specs.Stacks.{TOPS, NUMBERED, underAt};
 ghost use Rattle.markup.specs.Writing.{lowestRow, isInherited};
 ghost use Rattle.subtree.specs.Flags.{Flagged};
-ghost use Rattle.row_meanings.specs.Tests.{isLeaf, isNamed, placeOf};
-ghost use Rattle.row_meanings.specs.Outward.{Noted};
-ghost use Rattle.meanings.specs.Names.{Walkable, undeclared};
-ghost use Rattle.meanings.specs.Writable.{Writable};
+ghost use Rattle.near_rows.specs.Outward.{isLeaf, Noted};
+ghost use Rattle.unsettled.specs.Walkable.{Walkable};
+ghost use Rattle.meanings.specs.Names.{undeclared};
+ghost use Rattle.meanings.specs.Writable.{WritableTo};
 use rules::Checked;
 use rules::Position;
 use rules::Refusal;
 use rules::Row;
 
-// Every row of the table is a document or of a type that is written, and its name, if it has one, means
-// its URI in scope there. The arrays stand at no row, before and after. Where a row declares nothing,
+// The first row that is neither a document nor of a type that is written, or whose name does not mean its URI in scope there;
+// NONE where there is none. The arrays stand at no row, before and after. Where a row declares nothing,
 // they stand at it already if they stand at the row that it lies in: they only move between rows that
 // declare something.
-pub fn all_writable(table: &[u32], notes: &[u16], tops: &mut [u16], path: &mut [u16]) -> bool
+pub fn first_unwritable(table: &[u32], notes: &[u16], tops: &mut [u16], path: &mut [u16]) -> Row
     requires { ⌜ ((pool : List ℕ) × Walkable (now table) pool (now notes) (now tops) (now path)) ⌝ }
     requires { ⌜ Standing (now table) (now notes) (now tops) (now path) 0 ⌝ }
-    ensures { λ r. ⌜ (r ≡ true → (pool : List ℕ) → Walkable (now (table .entry)) pool (now (notes .entry)) (now (tops .entry)) (now (path .entry)) → (q : ℕ) → q < rowCount (now (table .entry)) → Writable (nodes (now (table .entry)) pool) q) ⌝ }
+    ensures { λ r. ⌜ ((pool : List ℕ) → Walkable (now (table .entry)) pool (now (notes .entry)) (now (tops .entry)) (now (path .entry)) → WritableTo (now (table .entry)) pool (r .0)) ⌝ }
     ensures { λ _. ⌜ Standing (now (table .entry)) (now (notes .entry)) (now (tops .exit)) (now (path .exit)) 0 ⌝ }
     ensures { λ _. ⌜ underAt (now (path .exit)) NUMBERED 0 ≡ underAt (now (path .entry)) NUMBERED 0 ⌝ }
 {
@@ -40,12 +40,12 @@ pub fn all_writable(table: &[u32], notes: &[u16], tops: &mut [u16], path: &mut [
         position = approach(table, notes, tops, path, Row(r), Position(position)).0;
         if !row_meanings::is_writable(table, notes, tops, path, Row(r)) {
             moves::go(table, notes, tops, path, Position(position), Position(0));
-            return false;
+            return Row(r);
         }
         r += 1;
     }
     moves::go(table, notes, tops, path, Position(position), Position(0));
-    true
+    Row(rules::NONE)
 }
 
 // Goes from a position to the nearest row outward from a row that declares something, unless the row is
@@ -67,10 +67,10 @@ fn approach(
     ensures { λ _. ⌜ Noted (now (table .entry)) (now (notes .entry)) (now (path .exit)) (row .0 + 1) ⌝ }
     ensures { λ _. ⌜ underAt (now (path .exit)) NUMBERED 0 ≡ underAt (now (path .entry)) NUMBERED 0 ⌝ }
 {
-    if row_meanings::is_leaf(rows::kind(table, row)) {
+    if near_rows::is_leaf(rows::kind(table, row)) {
         return from;
     }
-    let to = row_meanings::nearest(table, notes, path, row);
+    let to = near_rows::nearest(table, notes, path, row);
     stacks::set_beside(path, notes::position_of(row), to);
     if to.0 == from.0 {
         return to;
@@ -79,7 +79,8 @@ fn approach(
     to
 }
 
-// Refusals 23 and 24 of the subtree of an element, whose rows are flagged. The arrays stand at no row.
+// Refusals 23 and 24 of the subtree of an element, whose rows are flagged. The rows before the first one are known to be
+// writable. The arrays stand at no row.
 pub fn check_names(
     table: &[u32],
     notes: &[u16],
@@ -87,72 +88,21 @@ pub fn check_names(
     path: &mut [u16],
     flags: &[u16],
     element: Row,
+    first: Row,
 ) -> Checked
     requires { ⌜ ((pool : List ℕ) × Walkable (now table) pool (now notes) (now tops) (now path)) ⌝ }
     requires { ⌜ Standing (now table) (now notes) (now tops) (now path) 0 ⌝ }
     requires { ⌜ (element .0 < rowCount (now table)) × (rowCount (now table) ≤ length (now flags)) ⌝ }
-    ensures { λ r. ⌜ ((pool : List ℕ) → Walkable (now (table .entry)) pool (now (notes .entry)) (now (tops .entry)) (now (path .entry)) → Flagged (now (table .entry)) (now (flags .entry)) (element .0) (rowCount (now (table .entry))) → isElement (node (nodes (now (table .entry)) pool) (element .0) .type) ≡ true → r ≡ verdict (firstRefusal (lowestRow (nodes (now (table .entry)) pool) (undeclared (nodes (now (table .entry)) pool) (element .0)) Refusal.Undeclared ∷ lowestRow (nodes (now (table .entry)) pool) (isInherited (nodes (now (table .entry)) pool) (element .0)) Refusal.Inherited ∷ []))) ⌝ }
+    ensures { λ r. ⌜ ((pool : List ℕ) → Walkable (now (table .entry)) pool (now (notes .entry)) (now (tops .entry)) (now (path .entry)) → Flagged (now (table .entry)) (now (flags .entry)) (element .0) (rowCount (now (table .entry))) → isElement (node (nodes (now (table .entry)) pool) (element .0) .type) ≡ true → WritableTo (now (table .entry)) pool (first .0) → r ≡ verdict (firstRefusal (lowestRow (nodes (now (table .entry)) pool) (undeclared (nodes (now (table .entry)) pool) (element .0)) Refusal.Undeclared ∷ lowestRow (nodes (now (table .entry)) pool) (isInherited (nodes (now (table .entry)) pool) (element .0)) Refusal.Inherited ∷ []))) ⌝ }
 {
     let position = notes::position_of(element);
     moves::go(table, notes, tops, path, Position(0), position);
     let inherited = check_inherited(table, notes, tops, element);
-    match check_declared(table, notes, tops, path, flags, position) {
-        Checked::Accepted => inherited,
-        Checked::Refused(why) => Checked::Refused(why),
+    let row = unsettled::lowest_from(table, notes, tops, path, flags, position, first);
+    if rows::has_row(table, row) {
+        return Checked::Refused(Refusal::Undeclared(row));
     }
-}
-
-// Refusal 23, for the lowest row of the subtree whose prefix does not mean its URI in scope there. The
-// arrays stand at a position.
-fn check_declared(
-    table: &[u32],
-    notes: &[u16],
-    tops: &mut [u16],
-    path: &mut [u16],
-    flags: &[u16],
-    from: Position,
-) -> Checked
-    requires { ⌜ ((pool : List ℕ) × Walkable (now table) pool (now notes) (now tops) (now path)) ⌝ }
-    requires { ⌜ (Standing (now table) (now notes) (now tops) (now path) (from .0)) × (from .0 ≤ rowCount (now table)) ⌝ }
-    requires { ⌜ rowCount (now table) ≤ length (now flags) ⌝ }
-    ensures { λ r. ⌜ ((e : ℕ) (pool : List ℕ) → Walkable (now (table .entry)) pool (now (notes .entry)) (now (tops .entry)) (now (path .entry)) → Flagged (now (table .entry)) (now (flags .entry)) e (rowCount (now (table .entry))) → isElement (node (nodes (now (table .entry)) pool) e .type) ≡ true → r ≡ verdict (lowestRow (nodes (now (table .entry)) pool) (undeclared (nodes (now (table .entry)) pool) e) Refusal.Undeclared)) ⌝ }
-{
-    let mut position = from.0;
-    let mut r: u32 = 0;
-    while rows::has_row(table, Row(r)) {
-        position = follow(table, notes, tops, path, flags, Row(r), Position(position)).0;
-        if row_meanings::is_unsettled(table, notes, tops, path, flags, Row(r)) {
-            return Checked::Refused(Refusal::Undeclared(Row(r)));
-        }
-        r += 1;
-    }
-    Checked::Accepted
-}
-
-// Goes from a position to the element in whose scope the name of a row stands, if the row is flagged and
-// has one. Answers where the arrays stand then.
-fn follow(
-    table: &[u32],
-    notes: &[u16],
-    tops: &mut [u16],
-    path: &mut [u16],
-    flags: &[u16],
-    row: Row,
-    from: Position,
-) -> Position
-    requires { ⌜ Ready (now table) (now notes) (now tops) (now path) ⌝ }
-    requires { ⌜ (Standing (now table) (now notes) (now tops) (now path) (from .0)) × (from .0 ≤ rowCount (now table)) ⌝ }
-    requires { ⌜ (row .0 < rowCount (now table)) × (rowCount (now table) ≤ length (now flags)) ⌝ }
-    ensures { λ r. ⌜ (Standing (now (table .entry)) (now (notes .entry)) (now (tops .exit)) (now (path .exit)) (r .0)) × (r .0 ≤ rowCount (now (table .entry))) ⌝ }
-    ensures { λ r. ⌜ (isNamed (now (table .entry)) (now (flags .entry)) (row .0) ≡ true → r .0 ≡ placeOf (now (table .entry)) (row .0)) ⌝ }
-    ensures { λ _. ⌜ Untouched (now (path .entry)) (now (path .exit)) ⌝ }
-{
-    if row_meanings::is_named(table, flags, row) {
-        let to = row_meanings::place_of(table, row);
-        moves::go(table, notes, tops, path, from, to);
-        return to;
-    }
-    from
+    inherited
 }
 
 // Refusal 24, for the lowest declaration of an ancestor that an element inherits. The arrays stand at
@@ -165,7 +115,7 @@ fn check_inherited(table: &[u32], notes: &[u16], tops: &[u16], element: Row) -> 
     let e = element.0;
     let mut r: u32 = 0;
     while rows::has_row(table, Row(r)) {
-        if row_meanings::is_open(table, notes, tops, Row(r), Row(e)) {
+        if inheritance::is_open(table, notes, tops, Row(r), Row(e)) {
             return Checked::Refused(Refusal::Inherited(Row(r)));
         }
         r += 1;

@@ -1,20 +1,21 @@
 -- Going through a value, run by run.
-use Prim.Native.Nat.{ℕ, _≤_, _<_}
+use Prim.Native.Nat.{ℕ, _+_, _*_, _≤_, _<_}
 use mathlib.Core.Path.{_≡_}
-use mathlib.Core.Bool.{Bool, true, cond, not}
+use mathlib.Core.Bool.{Bool, cond, not}
 use mathlib.Core.List.{List, [], _∷_}
 use lib.ListN.{length, getD, take, drop}
+use mir.Val.{boolByte}
 use Rattle.escapes.specs.Escapes.{isEscaped}
 
--- The bytes at a value's start that are escaped nowhere, not in quotes either.
-unfoldable pub run : List ℕ → List ℕ
-run [] = []
-run (b ∷ bs) = let rest = run bs in cond (isEscaped true b) [] (b ∷ rest)
+-- The bytes at a value's start that are not escaped, in a text or in quotes.
+unfoldable pub run : Bool → List ℕ → List ℕ
+run quoted [] = []
+run quoted (b ∷ bs) = let rest = run quoted bs in cond (isEscaped quoted b) [] (b ∷ rest)
 
--- The length of the run from each byte on. It may be that of longer bytes, of which these are a part.
+-- The lengths of the two runs from each byte on. They may be those of longer bytes, of which these are a part.
 pub record Measured (bytes runs : List ℕ) : Type 0 where
-  pub room : length bytes ≤ length runs
-  pub lengths : (i : ℕ) → i < length bytes → take (getD runs i 0) (drop i bytes) ≡ run (drop i bytes)
+  pub room : 2 * length bytes ≤ length runs
+  pub lengths : (quoted : Bool) (i : ℕ) → i < length bytes → take (getD runs (2 * i + boolByte quoted) 0) (drop i bytes) ≡ run quoted (drop i bytes)
 
 -- The lengths of the runs, or nothing.
 abbrev pub Known : List ℕ → List ℕ → Type 0

@@ -1,23 +1,27 @@
-// How far a value in XML text stands for itself: its runs of bytes that are escaped nowhere.
+// How far a value in XML text stands for itself: its runs of bytes that are not escaped, in a text and in quotes.
 ghost use mathlib.Core.Path.{_≡_};
-ghost use mathlib.Core.Bool.{true, cond};
-ghost use Prim.Native.Nat.{_+_, _-_, _≤_, _<_};
-ghost use lib.ListN.{length, take, drop};
+ghost use mathlib.Core.Bool.{cond};
+ghost use Prim.Native.Nat.{_+_, _*_, _≤_, _<_};
+ghost use lib.ListN.{length, getD};
+ghost use mir.Val.{boolByte};
 ghost use Rattle.rules.specs.Lists.{allOf};
 ghost use Rattle.rules.specs.Table.{MOST-BYTES};
 ghost use Rattle.escapes.specs.Escapes.{isEscaped};
-ghost use Rattle.runs.specs.Runs.{run, isPlain, Measured, Known};
+ghost use Rattle.runs.specs.Runs.{isPlain, Measured};
 
-// Where the run from byte i on ends, or a place behind the value's end: by its length, if that is known.
-pub fn run_end(value: &[u8], runs: &[u16], i: usize) -> usize
-    requires { ⌜ i < length (now value) ⌝ }
-    requires { ⌜ Known (now value) (now runs) ⌝ }
-    ensures { λ r. ⌜ (i ≤ r) × (take (r - i) (drop i (now (value .entry))) ≡ run (drop i (now (value .entry)))) ⌝ }
+// The length of the run from byte i on, in a text or in quotes.
+pub fn run_length(runs: &[u16], i: usize, quoted: bool) -> usize
+    requires { ⌜ 2 * i + 1 < length (now runs) ⌝ }
+    ensures { λ r. ⌜ (r ≡ getD (now (runs .entry)) (2 * i + boolByte quoted) 0) × (r < 65536) ⌝ }
 {
-    if runs.len() == 0 {
-        return seen_end(value, i);
-    }
-    i + wide(runs[i])
+    wide(runs[2 * i + place(quoted)])
+}
+
+// Where the length in a text, or that in quotes, stands among the two of a byte.
+fn place(quoted: bool) -> usize
+    ensures { λ r. ⌜ (r ≡ boolByte quoted) × (r < 2) ⌝ }
+{
+    quoted as usize
 }
 
 // A length as an index.
@@ -27,47 +31,48 @@ fn wide(x: u16) -> usize
     x as usize
 }
 
-// Where the run from byte i on ends, by a look at each byte.
-fn seen_end(value: &[u8], i: usize) -> usize
-    requires { ⌜ i ≤ length (now value) ⌝ }
-    ensures { λ r. ⌜ r ≡ i + length (run (drop i (now (value .entry)))) ⌝ }
-{
-    let mut end = i;
-    while end < value.len() {
-        if is_escaped(value[end], true) {
-            return end;
-        }
-        end += 1;
-    }
-    end
-}
-
-// The length of the run from each byte on, from the last to the first.
+// The lengths of the two runs from each byte on, from the last to the first: that in a text, and behind it that in quotes.
 pub fn measure_runs(bytes: &[u8], runs: &mut [u16])
-    requires { ⌜ (length (now bytes) ≤ MOST-BYTES) × (length (now bytes) ≤ length (now runs)) ⌝ }
+    requires { ⌜ (length (now bytes) ≤ MOST-BYTES) × (2 * length (now bytes) ≤ length (now runs)) ⌝ }
     ensures { λ _. ⌜ Measured (now (bytes .entry)) (now (runs .exit)) ⌝ }
 {
     let mut i = bytes.len();
-    let mut size: u16 = 0;
+    let mut text: u16 = 0;
+    let mut quoted: u16 = 0;
     while i > 0 {
         i -= 1;
-        size = run_from(bytes[i], size);
-        runs[i] = size;
+        text = run_from(bytes[i], text, false);
+        quoted = run_from(bytes[i], quoted, true);
+        runs[2 * i] = text;
+        runs[2 * i + 1] = quoted;
     }
 }
 
 // The length of the run from a byte on, by that of the run behind it. Most bytes are passed by the first test: no byte from 63 on
 // is escaped.
-fn run_from(b: u8, behind: u16) -> u16
+fn run_from(b: u8, behind: u16, quoted: bool) -> u16
     requires { ⌜ behind < MOST-BYTES ⌝ }
-    ensures { λ r. ⌜ r ≡ cond (isEscaped true b) 0 (behind + 1) ⌝ }
+    ensures { λ r. ⌜ r ≡ cond (isEscaped quoted b) 0 (behind + 1) ⌝ }
 {
     if b < 63 {
-        if is_escaped(b, true) {
+        if is_escaped(b, quoted) {
             return 0;
         }
     }
     behind + 1
+}
+
+// The byte ends a run, by the same tests.
+pub fn ends_run(b: u8, quoted: bool) -> bool
+    ensures { λ r. ⌜ r ≡ isEscaped quoted b ⌝ }
+{
+    if b >= 63 {
+        return false;
+    }
+    if quoted {
+        return is_escaped(b, true);
+    }
+    is_escaped(b, false)
 }
 
 // No byte is escaped. The compiler makes a loop for each of the two kinds of values.

@@ -1,4 +1,3 @@
 pub mod Start
 pub mod Flags
 pub mod Scans
-pub mod Parts

@@ -1,6 +1,6 @@
 -- Pieces of markup that are put one behind the other.
 -- Assumes nothing.
-use Prim.Native.Nat.{ℕ, _+_, _-_, _≤_}
+use Prim.Native.Nat.{ℕ, _+_, _-_, _*_, _≤_}
 use mathlib.Core.Path.{_≡_, sym, ap, _∙_}
 use mathlib.Core.Bool.{Bool, true, false}
 use mathlib.Core.List.{List, [], _∷_}
@@ -90,11 +90,11 @@ module _ (table : List ℕ) (r field : ℕ) {place : Place} (is : place ≡ plac
   pub place-length : place .length ≡ word table r (field + 1)
   place-length = ap (λ (p : Place). p .length) is
 
--- The lengths from the value's offset on.
-pub runs-from : (table runs : List ℕ) (r : ℕ) {offset : ℕ} → offset ≡ word table r VALUE → take (length runs - offset) (drop offset runs) ≡ drop (word table r VALUE) runs
+-- The lengths from the value's offset on, two for each byte.
+pub runs-from : (table runs : List ℕ) (r : ℕ) {offset : ℕ} → offset ≡ word table r VALUE → take (length runs - 2 * offset) (drop (2 * offset) runs) ≡ drop (2 * word table r VALUE) runs
 runs-from table runs r {offset} is =
-    let all : length (drop offset runs) ≤ length runs - offset = rw length-drop (omega arith) in
-    take-all (length runs - offset) (drop offset runs) all ∙ ap (λ (k : ℕ). drop k runs) is
+    let all : length (drop (2 * offset) runs) ≤ length runs - 2 * offset = rw length-drop (omega arith) in
+    take-all (length runs - 2 * offset) (drop (2 * offset) runs) all ∙ ap (λ (k : ℕ). drop (2 * k) runs) is
 
 -- What is known of a value that is read from the pool.
 module _ (table pool : List ℕ) {marks runs : List ℕ} (r : ℕ) (m : Marked pool marks runs) {value : List ℕ} (is : value ≡ nodeAt table pool r .value .bytes) where
@@ -105,8 +105,8 @@ module _ (table pool : List ℕ) {marks runs : List ℕ} (r : ℕ) (m : Marked p
   pub plain-value : (quoted : Bool) {t : List ℕ} {at end : ℕ} {t′ : List ℕ} {plain : Bool} → plain ≡ eqb (getD marks 0 0) 1 → plain ≡ true → Put t at value end t′ → Put t at (escaped quoted (nodeAt table pool r .value .bytes)) end t′
   plain-value quoted {t} {at} told known p = value-read quoted (nodeAt table pool r) is (known-put quoted value t at (value-plain told known) p)
 
-  pub value-known : {part : List ℕ} → ((length part ≡ 0 → ⊥) → part ≡ drop (word table r VALUE) runs) → Known value part
+  pub value-known : {part : List ℕ} → ((length part ≡ 0 → ⊥) → part ≡ drop (2 * word table r VALUE) runs) → Known value part
   value-known told some =
       let same = told some in
-      let any : length runs ≡ 0 → ⊥ = λ none. some (rw same (omega (arith, length-drop (word table r VALUE) runs))) in
+      let any : length runs ≡ 0 → ⊥ = λ none. some (rw same (omega (arith, length-drop (2 * word table r VALUE) runs))) in
       rw (is, same) (part-measured pool runs (word table r VALUE) (word table r (VALUE + 1)) (m .known any))

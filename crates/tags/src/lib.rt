@@ -1,7 +1,7 @@
 // The markup of single rows: names, attributes, end tags, texts. Each piece is put behind what was put before it.
 ghost use mathlib.Core.Path.{_≡_};
 ghost use mathlib.Core.Bool.{true, false};
-ghost use Prim.Native.Nat.{_<_};
+ghost use Prim.Native.Nat.{_*_, _<_};
 ghost use lib.Dec.{eqb};
 ghost use lib.ListN.{length, getD, drop};
 ghost use Rattle.rules.specs.Table.{VALUE, rowCount, fieldAt, nodeAt, word};
@@ -85,11 +85,11 @@ fn put_quoted(
 // The lengths of the runs of a row's value, if they are known.
 fn value_runs<'r>(table: &[u32], row: Row, runs: &'r [u16]) -> &'r [u16]
     requires { ⌜ row .0 < rowCount (now table) ⌝ }
-    ensures { λ r. ⌜ ((length (now r) ≡ 0 → ⊥) → now r ≡ drop (word (now (table .entry)) (row .0) VALUE) (now (runs .entry))) ⌝ }
+    ensures { λ r. ⌜ ((length (now r) ≡ 0 → ⊥) → now r ≡ drop (2 * word (now (table .entry)) (row .0) VALUE) (now (runs .entry))) ⌝ }
 {
-    let offset = rows::wide(rows::place(table, row, rules::VALUE).offset.0);
-    if offset < runs.len() {
-        return &runs[offset..];
+    let start = 2 * rows::wide(rows::place(table, row, rules::VALUE).offset.0);
+    if start < runs.len() {
+        return &runs[start..];
     }
     &runs[..0]
 }

@@ -1,19 +1,15 @@
 -- What writing from a row is refused for, whatever the output, and the arrays that it is found in.
 use Prim.Native.Nat.{ℕ, _+_, _*_, _≤_, _<_}
 use mathlib.Core.Path.{_≡_}
-use mathlib.Core.Bool.{true}
 use mathlib.Core.List.{List}
 use mathlib.Core.Option.{none, some}
 use lib.ListN.{length, getD}
-use Rattle.rules.specs.Table.{MOST-ROWS, nodes, node, rowCount, isElement}
+use Rattle.rules.specs.Table.{MOST-ROWS, rowCount}
 use Rattle.rules.specs.Refusals.{checkRefusal}
-use Rattle.rules.specs.Normalization.{level1Refusal}
 use Rattle.rules.specs.declared.Refusal.{Refusal}
 use Rattle.rules.specs.declared.Row.{Row}
 use Rattle.stacks.specs.Stacks.{TOPS}
-use Rattle.scopes.specs.Standing.{Standing}
-use Rattle.markup.specs.Writing.{subtreeRefusal, textRefusal, textWritten}
-use Rattle.meanings.specs.Names.{Walkable}
+use Rattle.markup.specs.Writing.{textRefusal, textWritten}
 use Rattle.element_text.specs.Elements.{fitted, elementText}
 use Rattle.text_refusals.specs.declared.Judged.{Judged}
 
@@ -23,17 +19,6 @@ pub record Cleared (table tops path : List ℕ) : Type 0 where
   pub unplaced : (i : ℕ) → getD path i 0 ≡ 0
   pub topped : rowCount table ≤ MOST-ROWS → TOPS * (3 * rowCount table) + TOPS ≤ length tops
   pub placed : rowCount table ≤ MOST-ROWS → 4 * rowCount table + 4 ≤ length path
-
--- The check accepts the table, its names and xml have numbers, its declarations are linked, and the arrays stand at no row.
-pub record Prepared (table pool notes tops path : List ℕ) : Type 0 where
-  pub walkable : Walkable table pool notes tops path
-  pub standing : Standing table notes tops path 0
-
--- No row draws 9, and the subtree of row e, if that is an element, none of 20 to 24 but 22.
-pub record Unrefused (table pool : List ℕ) (e : ℕ) : Type 0 where
-  pub within : e < rowCount table
-  pub level2 : level1Refusal (nodes table pool) ≡ none
-  pub subtree : (start : ℕ) → isElement (node (nodes table pool) e .type) ≡ true → subtreeRefusal (nodes table pool) start (some e) ≡ none
 
 -- Element e of an accepted table is written: its text, or 22.
 pub record Writes (table pool : List ℕ) (start e : ℕ) : Type 0 where

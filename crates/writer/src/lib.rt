@@ -5,7 +5,6 @@ ghost use lib.ListN.{length};
 ghost use Rattle.rules.specs.Table.{rowCount};
 ghost use Rattle.checker.specs.Lent.{FEW-ROWS};
 ghost use Rattle.markup.specs.Writing.{textWritten};
-ghost use Rattle.element_text.specs.Elements.{FEW-BYTES};
 use rules::Row;
 use rules::Written;
 use text_refusals::Judged;
@@ -21,7 +20,7 @@ pub fn write(table: &[u32], pool: &[u8], row: Row, out: &mut [u8]) -> Written
     if rows::row_count(table) > checker::FEW_ROWS {
         return write_any(table, pool, row, out);
     }
-    if pool.len() > element_text::FEW_BYTES {
+    if pool.len() > checker::FEW_BYTES {
         return write_any(table, pool, row, out);
     }
     write_few(table, pool, row, out)
@@ -44,9 +43,9 @@ fn write_any(table: &[u32], pool: &[u8], row: Row, out: &mut [u8]) -> Written
     }
 }
 
-// The same in small arrays, of a table of few rows and a short pool.
-fn write_few(table: &[u32], pool: &[u8], row: Row, out: &mut [u8]) -> Written
-    requires { ⌜ (rowCount (now table) ≤ FEW-ROWS) × (length (now pool) ≤ FEW-BYTES) ⌝ }
+// The same in small arrays, of a table of few rows; meant for a short pool.
+pub fn write_few(table: &[u32], pool: &[u8], row: Row, out: &mut [u8]) -> Written
+    requires { ⌜ rowCount (now table) ≤ FEW-ROWS ⌝ }
     ensures { λ r. ⌜ r ≡ textWritten (now (table .entry)) (now (pool .entry)) (row .0) (length (now (out .entry))) .answer ⌝ }
     ensures { λ _. ⌜ now (out .exit) ≡ textWritten (now (table .entry)) (now (pool .entry)) (row .0) (length (now (out .entry))) .bytes ⌝ }
 {

@@ -34,7 +34,7 @@ write-any-spec =
     tie.close
     (tie.spec
     (λ c. search needs)
-    (λ c κs. new-room (c .before .before .before .args .bundle .now) MOST-ROWS 1 (λ header few. few))
+    (λ c κs. new-room (c .before .before .before .args .bundle .now) MOST-ROWS 0 (λ header few. few))
     (λ c. search needs)
     (λ c κs. opened c .inside)
     (λ c.

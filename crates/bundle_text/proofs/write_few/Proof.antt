@@ -7,7 +7,7 @@ use lib.Seq.{length-take-le}
 use Rattle.checker.specs.Lent.{FEW-ROWS}
 use Rattle.bundles.specs.Operations.{WriteOutcome}
 use Rattle.bundles.specs.Opening.{Opens}
-use Rattle.bundles.proofs.Opening.{new-room}
+use Rattle.bundles.proofs.Opening.{new-room, opened-few}
 use Rattle.markup.proofs.OverBundles.{text-not-open, text-open}
 use borrow.Author.Needs.{needs}
 use Rattle.bundle_text.proofs.write_few.Statement.{statement}
@@ -19,7 +19,7 @@ opened c = c .before .before .before .before .read-rows .ensures .0 _ (c .before
 
 returns : tie.Need-returns
 returns c =
-    let done = c .before .before .write .ensures in
+    let done = c .before .before .write-few .ensures in
     let is = text-open _ _ _ (opened (c .before .before .before .before .before .before)) _ (c .before .before .before .before .before .pool .ensures) _ _ in
     (done .0 ∙ ap (λ (o : WriteOutcome). o .answer) is, done .1 ∙ ap (λ (o : WriteOutcome). o .bytes) is)
 
@@ -42,7 +42,7 @@ write-few-spec =
     omega arith)
     (λ c. opened (c .before) .room)
     (λ c. sym (length-take-le _ _ (opened (c .before .before) .room)))
-    (λ c κs. search needs)
+    (λ c κs. opened-few _ _ _ (opened (c .before .before .before)) FEW-ROWS (c .before .before .before .before .before .before .before .before .before .before .before .pre))
     (λ c. search needs)
     (λ c κs. search needs)
     (λ c. search needs)

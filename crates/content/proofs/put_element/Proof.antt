@@ -95,72 +95,65 @@ loop2-again c =
     let some = c .before .before .if2 .left in
     (l .loop2 .inv .0, omega (arith, some), inside-out (s .args .table .now) (s .args .pool .now) (s .args .links .now) (l .loop2 .inv .0) (l .loop2 .inv .2) (c .before .before .before .before .before .before .before .if1 .taken) (c .before .before .if2 .left) (c .before .next .result .0) (c .before .next .ensures) (c .parent .result .0) (c .parent .ensures) (c .before .before .before .before .before .put-end-tag .ensures), omega (arith, out-less (s .args .table .now) (s .args .pool .now) (s .args .links .now) (l .loop2 .inv .0) (l .loop2 .inv .2) (c .before .before .before .before .before .before .before .if1 .taken) (c .before .before .if2 .left) (c .before .next .result .0) (c .before .next .ensures) (c .parent .result .0) (c .parent .ensures), l .loop2 .inv .3))
 
-cast-t24 : tie.Need-cast-t24 Inv-loop2 μ-loop2 Inv-loop μ-loop
-cast-t24 c =
-    let l = c .before in
-    let s = l .before .before .before .before .before .before .before .before .before .before .before .before in
-    let h : 0 < l .loop2 .position = omega (arith, c .if1 .left) in
-    omega (arith, l .loop2 .inv .0 .few, inside-row (s .args .table .now) (s .args .pool .now) (s .args .links .now) (l .loop2 .inv .0) (l .loop2 .inv .2) h)
-
-sub-t25 : tie.Need-sub-t25 Inv-loop2 μ-loop2 Inv-loop μ-loop
-sub-t25 c = omega (arith, c .if1 .left)
+row-at-requires : tie.Need-row-at-requires Inv-loop2 μ-loop2 Inv-loop μ-loop
+row-at-requires c κs = omega (arith, c .if1 .left)
 
 kind-requires : tie.Need-kind-requires Inv-loop2 μ-loop2 Inv-loop μ-loop
 kind-requires c κs =
-    let l = c .before in
+    let l = c .before .before in
     let s = l .before .before .before .before .before .before .before .before .before .before .before .before in
-    let h : 0 < l .loop2 .position = omega (arith, c .if1 .left) in
-    inside-row (s .args .table .now) (s .args .pool .now) (s .args .links .now) (l .loop2 .inv .0) (l .loop2 .inv .2) h
+    let h : 0 < l .loop2 .position = omega (arith, c .before .if1 .left) in
+    inside-row (s .args .table .now) (s .args .pool .now) (s .args .links .now) (l .loop2 .inv .0) (l .loop2 .inv .2) h (c .row-at .ensures)
 
 loop-less : tie.Need-loop-less Inv-loop2 μ-loop2 Inv-loop μ-loop
 loop-less c =
-    let l = c .before .before .before in
+    let l = c .before .before .before .before in
     let o = l .before .before .before .before .before .before in
     let s = o .before .before .before .before .before .before in
-    let h : 0 < l .loop2 .position = omega (arith, c .before .before .if1 .left) in
+    let h : 0 < l .loop2 .position = omega (arith, c .before .before .before .if1 .left) in
     let is = sym (c .before .kind .ensures) ∙ c .if3 .taken in
-    let same = in-same (s .args .table .now) (s .args .pool .now) (s .args .links .now) (l .loop2 .inv .0) (l .loop2 .inv .2) h is in
+    let same = in-same (s .args .table .now) (s .args .pool .now) (s .args .links .now) (l .loop2 .inv .0) (l .loop2 .inv .2) h (c .before .before .row-at .ensures) is in
     let deeper : suc (l .loop2 .depth - 1) ≡ l .loop2 .depth = omega (arith, l .loop2 .inv .1) in
-    omega (arith, ready-length (s .args .table .now) (s .args .pool .now) (s .args .links .now) (l .loop2 .inv .0) (l .loop2 .position - 1) (l .loop2 .depth) (l .loop2 .depth - 1) deeper same, l .loop2 .inv .3, rest-less (s .args .table .now) (s .args .pool .now) (s .args .links .now) (o .loop .inv .0) (o .loop .inv .1) (l .before .first .result .0) (l .before .first .ensures) (o .loop .depth + 1 - 1) (omega arith))
+    omega (arith, ready-length (s .args .table .now) (s .args .pool .now) (s .args .links .now) (l .loop2 .inv .0) (c .before .before .row-at .result .0) (l .loop2 .depth) (l .loop2 .depth - 1) deeper same, l .loop2 .inv .3, rest-less (s .args .table .now) (s .args .pool .now) (s .args .links .now) (o .loop .inv .0) (o .loop .inv .1) (l .before .first .result .0) (l .before .first .ensures) (o .loop .depth + 1 - 1) (omega arith))
 
 loop-again : tie.Need-loop-again Inv-loop2 μ-loop2 Inv-loop μ-loop
 loop-again c =
-    let l = c .before .before .before in
+    let l = c .before .before .before .before in
     let o = l .before .before .before .before .before .before in
     let s = o .before .before .before .before .before .before in
-    let h : 0 < l .loop2 .position = omega (arith, c .before .before .if1 .left) in
+    let h : 0 < l .loop2 .position = omega (arith, c .before .before .before .if1 .left) in
     let is = sym (c .before .kind .ensures) ∙ c .if3 .taken in
-    let same = in-same (s .args .table .now) (s .args .pool .now) (s .args .links .now) (l .loop2 .inv .0) (l .loop2 .inv .2) h is in
+    let same = in-same (s .args .table .now) (s .args .pool .now) (s .args .links .now) (l .loop2 .inv .0) (l .loop2 .inv .2) h (c .before .before .row-at .ensures) is in
     let deeper : suc (l .loop2 .depth - 1) ≡ l .loop2 .depth = omega (arith, l .loop2 .inv .1) in
-    (l .loop2 .inv .0, ready-next (s .args .table .now) (s .args .pool .now) (s .args .links .now) (l .loop2 .inv .0) (inside-row (s .args .table .now) (s .args .pool .now) (s .args .links .now) (l .loop2 .inv .0) (l .loop2 .inv .2) h) (l .loop2 .depth - 1) deeper (inside-in (s .args .table .now) (s .args .pool .now) (s .args .links .now) (l .loop2 .inv .0) (l .loop2 .inv .2) h is) same (through (s .args .table .now) (s .args .pool .now) (s .args .links .now) (o .loop .inv .0) (o .loop .inv .1) (l .before .first .result .0) (l .before .first .ensures) (o .loop .depth + 1 - 1) (omega arith) (l .before .before .before .before .put-start-tag .ensures) (l .loop2 .inv .2 .left)))
+    (l .loop2 .inv .0, ready-next (s .args .table .now) (s .args .pool .now) (s .args .links .now) (l .loop2 .inv .0) (inside-row (s .args .table .now) (s .args .pool .now) (s .args .links .now) (l .loop2 .inv .0) (l .loop2 .inv .2) h (c .before .before .row-at .ensures)) (l .loop2 .depth - 1) deeper (inside-in (s .args .table .now) (s .args .pool .now) (s .args .links .now) (l .loop2 .inv .0) (l .loop2 .inv .2) h (c .before .before .row-at .ensures) is) same (through (s .args .table .now) (s .args .pool .now) (s .args .links .now) (o .loop .inv .0) (o .loop .inv .1) (l .before .first .result .0) (l .before .first .ensures) (o .loop .depth + 1 - 1) (omega arith) (l .before .before .before .before .put-start-tag .ensures) (l .loop2 .inv .2 .left)))
 
 put-text-requires : tie.Need-put-text-requires Inv-loop2 μ-loop2 Inv-loop μ-loop
 put-text-requires c κs =
-    let l = c .before .before .before .before in
+    let l = c .before .before .before .before .before in
     let s = l .before .before .before .before .before .before .before .before .before .before .before .before in
-    let h : 0 < l .loop2 .position = omega (arith, c .before .before .before .if1 .left) in
-    (inside-row (s .args .table .now) (s .args .pool .now) (s .args .links .now) (l .loop2 .inv .0) (l .loop2 .inv .2) h, s .pre .1 .1)
+    let h : 0 < l .loop2 .position = omega (arith, c .before .before .before .before .if1 .left) in
+    (inside-row (s .args .table .now) (s .args .pool .now) (s .args .links .now) (l .loop2 .inv .0) (l .loop2 .inv .2) h (c .before .before .before .row-at .ensures), s .pre .1 .1)
 
 next-requires-2 : tie.Need-next-requires-2 Inv-loop2 μ-loop2 Inv-loop μ-loop
 next-requires-2 c κs =
-    let l = c .before .before .before .before .before .before .before in
+    let l = c .before .before .before .before .before .before .before .before in
     let s = l .before .before .before .before .before .before .before .before .before .before .before .before in
-    let h : 0 < l .loop2 .position = omega (arith, c .before .before .before .before .before .before .if1 .left) in
-    omega (arith, l .loop2 .inv .0 .room, inside-row (s .args .table .now) (s .args .pool .now) (s .args .links .now) (l .loop2 .inv .0) (l .loop2 .inv .2) h)
+    let h : 0 < l .loop2 .position = omega (arith, c .before .before .before .before .before .before .before .if1 .left) in
+    omega (arith, l .loop2 .inv .0 .room, inside-row (s .args .table .now) (s .args .pool .now) (s .args .links .now) (l .loop2 .inv .0) (l .loop2 .inv .2) h (c .before .before .before .before .before .before .row-at .ensures))
 
 loop2-less-2 : tie.Need-loop2-less-2 Inv-loop2 μ-loop2 Inv-loop μ-loop
 loop2-less-2 c =
-    let l = c .before .before .before .before .before .before .before .before in
+    let l = c .before .before .before .before .before .before .before .before .before in
     let s = l .before .before .before .before .before .before .before .before .before .before .before .before in
-    let h : 0 < l .loop2 .position = omega (arith, c .before .before .before .before .before .before .before .if1 .left) in
-    over-less (s .args .table .now) (s .args .pool .now) (s .args .links .now) (l .loop2 .inv .0) (l .loop2 .inv .2) h (λ is. c .before .before .before .before .before .if3 .left (c .before .before .before .before .before .before .kind .ensures ∙ is)) (c .next2 .result .0) (c .next2 .ensures)
+    let h : 0 < l .loop2 .position = omega (arith, c .before .before .before .before .before .before .before .before .if1 .left) in
+    over-less (s .args .table .now) (s .args .pool .now) (s .args .links .now) (l .loop2 .inv .0) (l .loop2 .inv .2) h (c .before .before .before .before .before .before .before .row-at .ensures) (λ is. c .before .before .before .before .before .if3 .left (c .before .before .before .before .before .before .kind .ensures ∙ is)) (c .next2 .result .0) (c .next2 .ensures)
 
 loop2-again-2 : tie.Need-loop2-again-2 Inv-loop2 μ-loop2 Inv-loop μ-loop
 loop2-again-2 c =
-    let l = c .before .before .before .before .before .before .before .before in
+    let l = c .before .before .before .before .before .before .before .before .before in
     let s = l .before .before .before .before .before .before .before .before .before .before .before .before in
-    let h : 0 < l .loop2 .position = omega (arith, c .before .before .before .before .before .before .before .if1 .left) in
-    (l .loop2 .inv .0, l .loop2 .inv .1, inside-over (s .args .table .now) (s .args .pool .now) (s .args .links .now) (l .loop2 .inv .0) (l .loop2 .inv .2) h (λ is. c .before .before .before .before .before .if3 .left (c .before .before .before .before .before .before .kind .ensures ∙ is)) (c .next2 .result .0) (c .next2 .ensures) (c .before .before .before .put-text .ensures), omega (arith, over-less (s .args .table .now) (s .args .pool .now) (s .args .links .now) (l .loop2 .inv .0) (l .loop2 .inv .2) h (λ is. c .before .before .before .before .before .if3 .left (c .before .before .before .before .before .before .kind .ensures ∙ is)) (c .next2 .result .0) (c .next2 .ensures), l .loop2 .inv .3))
+    let h : 0 < l .loop2 .position = omega (arith, c .before .before .before .before .before .before .before .before .if1 .left) in
+    (l .loop2 .inv .0, l .loop2 .inv .1, inside-over (s .args .table .now) (s .args .pool .now) (s .args .links .now) (l .loop2 .inv .0) (l .loop2 .inv .2) h (c .before .before .before .before .before .before .before .row-at .ensures) (λ is. c .before .before .before .before .before .if3 .left (c .before .before .before .before .before .before .kind .ensures ∙ is)) (c .next2 .result .0) (c .next2 .ensures) (c .before .before .before .put-text .ensures), omega (arith, over-less (s .args .table .now) (s .args .pool .now) (s .args .links .now) (l .loop2 .inv .0) (l .loop2 .inv .2) h (c .before .before .before .before .before .before .before .row-at .ensures) (λ is. c .before .before .before .before .before .if3 .left (c .before .before .before .before .before .before .kind .ensures ∙ is)) (c .next2 .result .0) (c .next2 .ensures), l .loop2 .inv .3))
 
 pub put-element-spec : {M : Type 1} → statement M
 put-element-spec =
@@ -183,8 +176,7 @@ put-element-spec =
     parent-requires
     loop2-less
     loop2-again
-    cast-t24
-    sub-t25
+    row-at-requires
     kind-requires
     loop-less
     loop-again

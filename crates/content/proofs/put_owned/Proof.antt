@@ -28,38 +28,34 @@ loop-holds c =
     let s = c .before .before .before .before .before .before in
     (s .pre .0, s .pre .1 .0, left-start (s .args .table .now) (s .args .pool .now) (s .args .links .now) (s .args .row .0) (s .pre .0) (s .pre .1 .0) (s .args .out .now) (s .args .at) (c .first .result .0) (c .first .ensures))
 
-cast-t15 : tie.Need-cast-t15 Inv-loop μ-loop
-cast-t15 c = omega arith
-
-sub-t16 : tie.Need-sub-t16 Inv-loop μ-loop
-sub-t16 c = omega arith
+row-at-requires : tie.Need-row-at-requires Inv-loop μ-loop
+row-at-requires c κs = omega (arith, c .loop-test .taken)
 
 put-attribute-requires : tie.Need-put-attribute-requires Inv-loop μ-loop
 put-attribute-requires c κs =
-    let l = c .before .before in
+    let l = c .before .before .before in
     let s = l .before .before .before .before .before .before .before in
-    (omega (arith, left-row (s .args .table .now) (s .args .pool .now) (s .args .links .now) (s .args .row .0) (l .loop .inv .0) (l .loop .inv .1) (s .args .out .now) (s .args .at) (l .loop .inv .2)), s .pre .1 .1)
+    (omega (arith, c .before .row-at .ensures, c .before .before .loop-test .taken, left-row (s .args .table .now) (s .args .pool .now) (s .args .links .now) (s .args .row .0) (l .loop .inv .0) (l .loop .inv .1) (s .args .out .now) (s .args .at) (l .loop .inv .2)), s .pre .1 .1)
 
 next-requires : tie.Need-next-requires Inv-loop μ-loop
 next-requires c κs =
-    let l = c .before .before .before .before .before in
+    let l = c .before .before .before .before .before .before in
     let s = l .before .before .before .before .before .before .before in
-    let room = s .pre .0 .room in
-    omega (arith, left-row (s .args .table .now) (s .args .pool .now) (s .args .links .now) (s .args .row .0) (l .loop .inv .0) (l .loop .inv .1) (s .args .out .now) (s .args .at) (l .loop .inv .2), l .loop .inv .0 .room)
+    omega (arith, c .before .before .before .before .row-at .ensures, c .before .before .before .before .before .loop-test .taken, left-row (s .args .table .now) (s .args .pool .now) (s .args .links .now) (s .args .row .0) (l .loop .inv .0) (l .loop .inv .1) (s .args .out .now) (s .args .at) (l .loop .inv .2), l .loop .inv .0 .room)
 
 loop-less : tie.Need-loop-less Inv-loop μ-loop
 loop-less c =
-    let l = c .before .before .before .before .before .before in
+    let l = c .before .before .before .before .before .before .before in
     let s = l .before .before .before .before .before .before .before in
-    let taken = c .before .before .before .before .before .loop-test .taken in
-    left-falls (rowCount (s .args .table .now)) (l .loop .position) (c .next .result .0) taken (left-row (s .args .table .now) (s .args .pool .now) (s .args .links .now) (s .args .row .0) (l .loop .inv .0) (l .loop .inv .1) (s .args .out .now) (s .args .at) (l .loop .inv .2)) (left-later (s .args .table .now) (s .args .pool .now) (s .args .links .now) (s .args .row .0) (l .loop .inv .0) (l .loop .inv .1) (s .args .out .now) (s .args .at) (l .loop .inv .2) taken (c .next .result .0) (c .next .ensures))
+    let taken = c .before .before .before .before .before .before .loop-test .taken in
+    left-falls (rowCount (s .args .table .now)) (l .loop .position) (c .next .result .0) taken (left-row (s .args .table .now) (s .args .pool .now) (s .args .links .now) (s .args .row .0) (l .loop .inv .0) (l .loop .inv .1) (s .args .out .now) (s .args .at) (l .loop .inv .2)) (left-later (s .args .table .now) (s .args .pool .now) (s .args .links .now) (s .args .row .0) (l .loop .inv .0) (l .loop .inv .1) (s .args .out .now) (s .args .at) (l .loop .inv .2) taken (c .before .before .before .before .before .row-at .ensures) (c .next .result .0) (c .next .ensures))
 
 loop-again : tie.Need-loop-again Inv-loop μ-loop
 loop-again c =
-    let l = c .before .before .before .before .before .before in
+    let l = c .before .before .before .before .before .before .before in
     let s = l .before .before .before .before .before .before .before in
-    let taken = c .before .before .before .before .before .loop-test .taken in
-    (l .loop .inv .0, l .loop .inv .1, left-next (s .args .table .now) (s .args .pool .now) (s .args .links .now) (s .args .row .0) (l .loop .inv .0) (l .loop .inv .1) (s .args .out .now) (s .args .at) (l .loop .inv .2) taken (c .next .result .0) (c .next .ensures) (c .before .before .before .put-attribute .ensures))
+    let taken = c .before .before .before .before .before .before .loop-test .taken in
+    (l .loop .inv .0, l .loop .inv .1, left-next (s .args .table .now) (s .args .pool .now) (s .args .links .now) (s .args .row .0) (l .loop .inv .0) (l .loop .inv .1) (s .args .out .now) (s .args .at) (l .loop .inv .2) taken (c .before .before .before .before .before .row-at .ensures) (c .next .result .0) (c .next .ensures) (c .before .before .before .put-attribute .ensures))
 
 same-length : tie.Need-same-length Inv-loop μ-loop
 same-length c = c .before .loop .inv .2 .size
@@ -78,8 +74,7 @@ put-owned-spec =
     μ-loop
     first-requires
     loop-holds
-    cast-t15
-    sub-t16
+    row-at-requires
     put-attribute-requires
     next-requires
     loop-less

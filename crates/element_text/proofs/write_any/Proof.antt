@@ -24,7 +24,7 @@ write-measured-requires : tie.Need-write-measured-requires
 write-measured-requires c κs =
     let s = c .before .before .before .before .before .before .before .before .before .before in
     let most = few-bytes (s .args .table .now) (s .args .pool .now) (s .pre .0) in
-    ((most, runs-room _ 32768 most), c .before .before .before .before .before .prepare .ensures _ (s .pre .1))
+    ((most, runs-room _ 65536 (omega (arith, most))), c .before .before .before .before .before .prepare .ensures _ (s .pre .1))
 
 same-length : tie.Need-same-length
 same-length c = search needs

@@ -1,7 +1,7 @@
 -- `element_text::write_few` meets its contract.
 -- Assumes nothing.
 use native.Mathlib.Omega.{arith}
-use Rattle.element_text.proofs.Elements.{few-bytes, zeros-clear, runs-room}
+use Rattle.element_text.proofs.Elements.{zeros-clear}
 use borrow.Author.Needs.{needs}
 use Rattle.element_text.proofs.write_few.Statement.{statement}
 use Rattle.element_text.proofs.write_few.Tie as tie
@@ -12,25 +12,7 @@ slice-aggregate-prepare c = search needs
 prepare-requires : tie.Need-prepare-requires
 prepare-requires c κs =
     let s = c .before .before .before .before in
-    (s .pre .0, (zeros-clear (s .args .table .now) 512 (omega (arith, s .pre .1 .1 .0)), omega (arith, s .pre .1 .0)))
-
-slice-aggregate-write-measured : tie.Need-slice-aggregate-write-measured
-slice-aggregate-write-measured c = search needs
-
-slice-aggregate-write-measured-2 : tie.Need-slice-aggregate-write-measured-2
-slice-aggregate-write-measured-2 c = search needs
-
-write-measured-requires : tie.Need-write-measured-requires
-write-measured-requires c κs =
-    let s = c .before .before .before .before .before .before .before .before .before .before in
-    let most = few-bytes (s .args .table .now) (s .args .pool .now) (s .pre .0) in
-    ((most, runs-room _ 4096 (s .pre .1 .1 .1)), c .before .before .before .before .before .prepare .ensures _ (s .pre .1 .0))
-
-same-length : tie.Need-same-length
-same-length c = search needs
-
-returns : tie.Need-returns
-returns c = search needs
+    (s .pre .0, (zeros-clear (s .args .table .now) 512 (omega (arith, s .pre .1 .1)), omega (arith, s .pre .1 .0)))
 
 slice-aggregate-write-marked : tie.Need-slice-aggregate-write-marked
 slice-aggregate-write-marked c = search needs
@@ -40,14 +22,14 @@ slice-aggregate-write-marked-2 c = search needs
 
 write-marked-requires : tie.Need-write-marked-requires
 write-marked-requires c κs =
-    let s = c .before .before .before .before .before .before .before .before .before .before in
-    c .before .before .before .before .before .prepare .ensures _ (s .pre .1 .0)
+    let s = c .before .before .before .before .before .before .before .before .before in
+    c .before .before .before .before .prepare .ensures _ (s .pre .1 .0)
 
-same-length-2 : tie.Need-same-length-2
-same-length-2 c = search needs
+same-length : tie.Need-same-length
+same-length c = search needs
 
-returns-2 : tie.Need-returns-2
-returns-2 c = search needs
+returns : tie.Need-returns
+returns c = search needs
 
 pub write-few-spec : {M : Type 1} → statement M
 write-few-spec =
@@ -55,13 +37,8 @@ write-few-spec =
     (tie.spec
     slice-aggregate-prepare
     prepare-requires
-    slice-aggregate-write-measured
-    slice-aggregate-write-measured-2
-    write-measured-requires
-    same-length
-    returns
     slice-aggregate-write-marked
     slice-aggregate-write-marked-2
     write-marked-requires
-    same-length-2
-    returns-2)
+    same-length
+    returns)

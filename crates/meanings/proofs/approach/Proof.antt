@@ -7,8 +7,8 @@ use lib.ListN.{set}
 use borrow.Author.Needs.{needs}
 use Rattle.stacks.specs.Stacks.{PATH, NUMBERED}
 use Rattle.scopes.specs.Standing.{Standing}
-use Rattle.row_meanings.specs.Tests.{isLeaf}
-use Rattle.meanings.proofs.Names.{few, ready}
+use Rattle.near_rows.specs.Outward.{isLeaf}
+use Rattle.unsettled.proofs.Walking.{few, ready}
 use Rattle.meanings.proofs.Writable.{parent-inner, approached-leaf, noted-standing, noted-walkable, approached-there, approached-moved}
 use Rattle.meanings.proofs.approach.Statement.{statement}
 use Rattle.meanings.proofs.approach.Tie as tie

@@ -12,7 +12,7 @@ use Rattle.rules.specs.declared.Refusal.{Refusal}
 use Rattle.scopes.specs.Standing.{Standing}
 use Rattle.markup.specs.Writing.{isInherited}
 use Rattle.subtree.proofs.Scans.{Scanning, scan-start, scan-found, scan-next, scan-end}
-use Rattle.meanings.specs.Names.{Walkable}
+use Rattle.unsettled.specs.Walkable.{Walkable}
 use Rattle.meanings.proofs.Names.{open-is}
 use Rattle.meanings.proofs.check_inherited.Statement.{statement}
 use Rattle.meanings.proofs.check_inherited.Tie as tie

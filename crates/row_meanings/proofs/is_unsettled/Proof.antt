@@ -1,8 +1,7 @@
 -- `row_meanings::is_unsettled` meets its contract.
 -- Assumes nothing.
 use mathlib.Core.Path.{sym, _∙_}
-use Rattle.subtree.proofs.Scans.{told-false}
-use Rattle.row_meanings.proofs.Tests.{unsettled-element, unsettled-attribute}
+use Rattle.row_meanings.proofs.Tests.{unsettled-element, unsettled-attribute, unsettled-other}
 use borrow.Author.Needs.{needs}
 use Rattle.row_meanings.proofs.is_unsettled.Statement.{statement}
 use Rattle.row_meanings.proofs.is_unsettled.Tie as tie
@@ -30,7 +29,9 @@ returns-2 c =
     unsettled-attribute (s .args .table .now) (s .args .row .0) (c .before .before .kind .ensures) (s .args .notes .now) (s .args .tops .now) (s .args .path .now) (s .args .flags .now) (sym (c .before .before .before .before .is-named .ensures) ∙ c .before .before .before .if1 .taken) (c .before .if2 .left) (c .attribute-settled .ensures)
 
 returns-3 : tie.Need-returns-3
-returns-3 c = told-false _ (sym (c .before .is-named .ensures) ∙ c .if1 .left)
+returns-3 c =
+    let s = c .before .before .before .before .before .before .before in
+    unsettled-other (s .args .table .now) (s .args .row .0) (s .args .notes .now) (s .args .tops .now) (s .args .path .now) (s .args .flags .now) (sym (c .before .is-named .ensures) ∙ c .if1 .left)
 
 pub is-unsettled-spec : {M : Type 1} → statement M
 is-unsettled-spec =

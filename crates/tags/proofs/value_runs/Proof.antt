@@ -12,6 +12,9 @@ place-requires c κs = search needs
 wide-requires : tie.Need-wide-requires
 wide-requires c κs = search needs
 
+mul-start : tie.Need-mul-start
+mul-start c = search needs
+
 mul-result : tie.Need-mul-result
 mul-result c = search needs
 
@@ -42,6 +45,7 @@ value-runs-spec =
     (tie.spec
     place-requires
     wide-requires
+    mul-start
     mul-result
     sub-result
     part-result-start

@@ -1,7 +1,7 @@
 -- `text_refusals::judge_asked` meets its contract.
 -- Assumes nothing.
 use native.Mathlib.Omega.{arith}
-use Rattle.text_refusals.proofs.Judging.{path-room, prepared}
+use Rattle.text_refusals.proofs.Judging.{accepted-ground, path-room, prepared, judged-row, judged-written}
 use borrow.Author.Needs.{needs}
 use Rattle.text_refusals.proofs.judge_asked.Statement.{statement}
 use Rattle.text_refusals.proofs.judge_asked.Tie as tie
@@ -10,14 +10,22 @@ set-xml-requires : tie.Need-set-xml-requires
 set-xml-requires c κs = let s = c .before .before .before .before .before .before in omega (arith, path-room (s .pre .1) (s .pre .0))
 
 link-all-requires : tie.Need-link-all-requires
-link-all-requires c κs = let ground = c .before .before .before .before .before .before .before .before .before .before .pre .0 in ((ground .unlinked .few, ground .unlinked .noted), ground .unlinked .none)
+link-all-requires c κs = search needs
 
-judge-row-requires : tie.Need-judge-row-requires
-judge-row-requires c κs =
-    let s = c .before .before .before .before .before .before .before .before .before .before .before .before .before .before .before .before in
-    let linked = c .before .before .before .before .before .link-all in
-    let ground = s .pre .0 in
-    (prepared (s .pre .1) ground (c .before .before .before .before .before .before .before .before .before .set-xml .ensures) (linked .kept .1 .0) (linked .ensures .0) (linked .ensures .1), (ground .unrefused, ground .within))
+element-to-write-requires : tie.Need-element-to-write-requires
+element-to-write-requires c κs = search needs
+
+check-requires : tie.Need-check-requires
+check-requires c κs =
+    let s = c .before .before .before .before .before .before .before .before .before .before .before .before .before .before .before .before .before in
+    let linked = c .before .before .before .before .before .before .link-all in
+    (prepared (s .pre .1) (s .pre .0) (c .before .before .before .before .before .before .before .before .before .before .set-xml .ensures) (linked .kept .1 .0) (linked .ensures .0) (linked .ensures .1), c .before .before .before .element-to-write .ensures (s .args .pool .now))
+
+enum-told : tie.Need-enum-told
+enum-told c = search needs
+
+enum-known-why : tie.Need-enum-known-why
+enum-known-why c = search needs
 
 same-length : tie.Need-same-length
 same-length c = search needs
@@ -29,7 +37,23 @@ same-length-3 : tie.Need-same-length-3
 same-length-3 c = search needs
 
 returns : tie.Need-returns
-returns c = c .before .before .before .before .judge-row .ensures
+returns c =
+    let s = c .before .before .before .before .before .before .before .before .before .before .before .before .before .before .before .before .before .before .before .before .before .before .before .before in
+    judged-written (s .args .table .now) (s .args .pool .now) (s .args .row .0) (accepted-ground (s .pre .1) (s .pre .0)) (s .pre .0 .unrefused) (c .before .before .before .before .before .before .check .ensures) _ (c .before .before .before .before .before .before .before .before .before .before .element-to-write .ensures (s .args .pool .now)) (c .enum-told .given .1)
+
+same-length-4 : tie.Need-same-length-4
+same-length-4 c = search needs
+
+same-length-5 : tie.Need-same-length-5
+same-length-5 c = search needs
+
+same-length-6 : tie.Need-same-length-6
+same-length-6 c = search needs
+
+returns-2 : tie.Need-returns-2
+returns-2 c =
+    let s = c .before .before .before .before .before .before .before .before .before .before .before .before .before .before .before .before .before .before .before .before .before .before .before .before .before in
+    judged-row (s .args .table .now) (s .args .pool .now) (s .args .row .0) (accepted-ground (s .pre .1) (s .pre .0)) (s .pre .0 .unrefused) (c .before .before .before .before .before .before .before .check .ensures) _ (c .before .why .given .1)
 
 pub judge-asked-spec : {M : Type 1} → statement M
 judge-asked-spec =
@@ -37,8 +61,15 @@ judge-asked-spec =
     (tie.spec
     set-xml-requires
     link-all-requires
-    judge-row-requires
+    element-to-write-requires
+    check-requires
+    enum-told
+    enum-known-why
     same-length
     same-length-2
     same-length-3
-    returns)
+    returns
+    same-length-4
+    same-length-5
+    same-length-6
+    returns-2)

@@ -1,98 +1,112 @@
--- `values::write_runs` meets its contract. The invariant: what is left to write makes the whole.
+-- `values::write_runs` meets its contract.
 -- Assumes nothing.
-use Prim.Native.Nat.{_-_, _<_}
-use mathlib.Core.Path.{_∙_}
+use Prim.Native.Nat.{_-_}
+use mathlib.Core.Path.{refl, _∙_}
 use native.Mathlib.Omega.{arith}
 use lib.ListN.{length}
 use denote.Ref.{now}
-use Rattle.values.proofs.Writing.{Left, left-start, left-last, left-run, stops, left-escape, left-end}
+use Rattle.escapes.specs.Escapes.{escaped}
+use Rattle.escapes.proofs.Asking.{in-quotes}
+use Rattle.runs.proofs.Runs.{length-told}
+use Rattle.values.proofs.Writing.{Left, left-start, left-run, left-short, behind-run}
 use Rattle.values.proofs.write_runs.Statement.{statement}
 use Rattle.values.proofs.write_runs.Tie as tie
 
 abbrev Inv-loop : tie.InvT-loop
-Inv-loop out₀ at value runs quoted to₀ i₀ out to i = Left quoted value out₀ at out to i
+Inv-loop out₀ at value runs quoted escapes size blocks limit to₀ i₀ out to i = Left quoted value (escaped quoted value) out₀ at out to i
 
 abbrev μ-loop : tie.MeasureT-loop
-μ-loop out₀ at value runs quoted to₀ i₀ out to i = length value - i
+μ-loop out₀ at value runs quoted escapes size blocks limit to₀ i₀ out to i = length value - i
+
+blocks-of-requires : tie.Need-blocks-of-requires Inv-loop μ-loop
+blocks-of-requires c κs = tt
+
+sub-limit : tie.Need-sub-limit Inv-loop μ-loop
+sub-limit c = omega (arith, c .before .before .before .before .before .pre .1)
 
 loop-holds : tie.Need-loop-holds Inv-loop μ-loop
-loop-holds c =
-    let s = c .before .before .before in
-    left-start (s .args .quoted) (now (s .args .value)) (now (s .args .out)) (s .args .at)
+loop-holds c = let s = c .before .before .before .before .before in left-start (s .args .quoted) (now (s .args .value)) (escaped (s .args .quoted) (now (s .args .value))) (now (s .args .out)) (s .args .at) 0 (omega arith) refl
 
-run-end-requires : tie.Need-run-end-requires Inv-loop μ-loop
-run-end-requires c κs = (omega arith, c .before .before .before .before .before .pre)
+put-each-requires : tie.Need-put-each-requires Inv-loop μ-loop
+put-each-requires c κs = (c .before .before .before .before .before .before .before .before .before .pre .0, c .before .before .before .loop .inv .within)
+
+same-length : tie.Need-same-length Inv-loop μ-loop
+same-length c = c .before .before .put-each .ensures .size ∙ c .before .before .before .before .before .before .loop .inv .size
+
+returns : tie.Need-returns Inv-loop μ-loop
+returns c = c .before .before .before .before .before .before .loop .inv .whole (c .before .before .put-each .ensures)
+
+run-length-requires : tie.Need-run-length-requires Inv-loop μ-loop
+run-length-requires c κs = omega (arith, c .before .before .before .blocks-of .ensures, c .before .before .before .before .before .before .before .before .pre .2 .room)
+
+end-of-requires : tie.Need-end-of-requires Inv-loop μ-loop
+end-of-requires c κs = (omega (arith, c .before .before .before .before .before .blocks-of .ensures), omega arith)
 
 sub-put-bytes : tie.Need-sub-put-bytes Inv-loop μ-loop
-sub-put-bytes c = omega arith
+sub-put-bytes c = omega (arith, c .before .end-of .ensures .0)
 
 part-put-bytes-start : tie.Need-part-put-bytes-start Inv-loop μ-loop
-part-put-bytes-start c = omega arith
+part-put-bytes-start c = omega (arith, c .before .end-of .ensures .0)
 
 part-put-bytes-end : tie.Need-part-put-bytes-end Inv-loop μ-loop
-part-put-bytes-end c = omega arith
+part-put-bytes-end c = omega (arith, c .before .end-of .ensures .1)
 
 put-bytes-requires : tie.Need-put-bytes-requires Inv-loop μ-loop
 put-bytes-requires c κs = tt
 
-same-length : tie.Need-same-length Inv-loop μ-loop
-same-length c =
-    let p = c .before .before in
-    p .put-bytes .ensures .size ∙ p .before .before .before .before .before .before .loop .inv .size
-
-returns : tie.Need-returns Inv-loop μ-loop
-returns c =
-    let p = c .before .before in
-    let e = p .before .before .before .before in
-    let l = e .before .before in
-    let s = l .before .before .before .before in
-    left-last (s .args .quoted) (now (s .args .value)) (now (s .args .out)) (s .args .at) (l .loop .inv) (e .run-end .result) (e .run-end .ensures) (p .before .before .before .if1 .taken) (p .put-bytes .ensures)
-
-sub-put-run : tie.Need-sub-put-run Inv-loop μ-loop
-sub-put-run c = c .before .before .run-end .ensures .0
-
-part-put-run-start : tie.Need-part-put-run-start Inv-loop μ-loop
-part-put-run-start c = c .before .before .run-end .ensures .0
-
-part-put-run-end : tie.Need-part-put-run-end Inv-loop μ-loop
-part-put-run-end c = omega (arith, c .before .if1 .left)
-
-put-run-requires : tie.Need-put-run-requires Inv-loop μ-loop
-put-run-requires c κs = tt
-
-shared-slice-read-write-byte : tie.Need-shared-slice-read-write-byte Inv-loop μ-loop
-shared-slice-read-write-byte c = omega (arith, c .before .before .before .before .before .before .before .if1 .left)
-
-write-byte-requires : tie.Need-write-byte-requires Inv-loop μ-loop
-write-byte-requires c κs =
-    let e = c .before .before .before .before .before .before .before .before in
-    let l = e .before .before in
-    let s = l .before .before .before .before in
-    stops (s .args .quoted) (now (s .args .value)) (now (s .args .out)) (s .args .at) (l .loop .inv) (e .run-end .result) (e .run-end .ensures) (omega (arith, c .before .before .before .before .before .before .before .if1 .left))
-
-add-i : tie.Need-add-i Inv-loop μ-loop
-add-i c = omega (arith, c .before .before .before .before .before .before .before .before .before .before .if1 .left)
-
 loop-less : tie.Need-loop-less Inv-loop μ-loop
-loop-less c = omega (arith, c .before .before .before .before .before .before .before .before .before .before .if1 .left, c .before .before .before .before .before .before .before .before .before .before .before .run-end .ensures .0)
+loop-less c = omega (arith, c .before .before .before .before .before .end-of .ensures .0, c .before .before .before .before .before .end-of .ensures .1)
 
 loop-again : tie.Need-loop-again Inv-loop μ-loop
 loop-again c =
-    let e = c .before .before .before .before .before .before .before .before .before .before .before in
-    let l = e .before .before in
-    let s = l .before .before .before .before in
-    let short : e .run-end .result < length (now (s .args .value)) = omega (arith, c .before .before .before .before .before .before .before .before .before .before .if1 .left) in
-    let ran = left-run (s .args .quoted) (now (s .args .value)) (now (s .args .out)) (s .args .at) (l .loop .inv) (e .run-end .result) (e .run-end .ensures) short (c .before .before .before .before .before .before .before .put-run .ensures) in
-    left-escape (s .args .quoted) (now (s .args .value)) (now (s .args .out)) (s .args .at) ran short (c .before .before .write-byte .ensures)
+    let l = c .before .before .before .before .before .before .before .before .before .before in
+    let s = c .before .before .before .before .before .before .before .before .before .before .before .before .before .before .before .before in
+    let e = c .before .before .before .before .before in
+    left-run (s .args .quoted) (now (s .args .value)) (escaped (s .args .quoted) (now (s .args .value))) (now (s .args .out)) (s .args .at) (l .loop .inv) (c .before .before .before .before .before .before .before .run-length .result) (length-told (s .pre .2) (s .args .quoted) (l .loop .i) (omega (arith, l .before .blocks-of .ensures)) (c .before .before .before .before .before .before .before .run-length .ensures .0)) (e .end-of .result) (omega (arith, e .end-of .ensures .0)) (e .end-of .ensures .1) (e .end-of .ensures .2) (c .before .before .put-bytes .ensures)
+
+add-end : tie.Need-add-end Inv-loop μ-loop
+add-end c = omega (arith, c .before .run-length .ensures .1)
+
+copy-short-requires : tie.Need-copy-short-requires Inv-loop μ-loop
+copy-short-requires c κs =
+    let l = c .before .before .before .before .before in
+    let s = c .before .before .before .before .before .before .before .before .before .before .before in
+    (omega (arith, s .pre .1, l .loop .inv .size), omega (arith, l .before .blocks-of .ensures), omega arith)
+
+shared-slice-read-write-escape : tie.Need-shared-slice-read-write-escape Inv-loop μ-loop
+shared-slice-read-write-escape c = omega (arith, c .before .before .before .before .before .before .before .before .before .before .before .blocks-of .ensures)
+
+write-escape-requires : tie.Need-write-escape-requires Inv-loop μ-loop
+write-escape-requires c κs =
+    let l = c .before .before .before .before .before .before .before .before .before .before in
+    let s = c .before .before .before .before .before .before .before .before .before .before .before .before .before .before .before .before in
+    let copied = c .before .before .before .before .copy-short in
+    let here = behind-run (s .args .quoted) (now (s .args .value)) (escaped (s .args .quoted) (now (s .args .value))) (now (s .args .out)) (s .args .at) (l .loop .inv) (c .before .before .before .before .before .before .before .run-length .result) (length-told (s .pre .2) (s .args .quoted) (l .loop .i) (omega (arith, l .before .blocks-of .ensures)) (c .before .before .before .before .before .before .before .run-length .ensures .0)) (omega (arith, l .before .blocks-of .ensures)) in
+    (s .pre .0, omega (arith, s .pre .1, l .loop .inv .size, copied .ensures .0, copied .ensures .1 .size), in-quotes (s .args .quoted) _ here .0)
+
+add-i : tie.Need-add-i Inv-loop μ-loop
+add-i c = omega (arith, c .before .before .before .before .before .before .before .before .before .before .before .before .before .before .blocks-of .ensures)
+
+loop-less-2 : tie.Need-loop-less-2 Inv-loop μ-loop
+loop-less-2 c = omega (arith, c .before .before .before .before .before .before .before .before .before .before .before .before .before .before .blocks-of .ensures)
+
+loop-again-2 : tie.Need-loop-again-2 Inv-loop μ-loop
+loop-again-2 c =
+    let l = c .before .before .before .before .before .before .before .before .before .before .before .before .before in
+    let s = c .before .before .before .before .before .before .before .before .before .before .before .before .before .before .before .before .before .before .before in
+    left-short (s .args .quoted) (now (s .args .value)) (escaped (s .args .quoted) (now (s .args .value))) (now (s .args .out)) (s .args .at) (l .loop .inv) (c .before .before .before .before .before .before .before .before .before .before .run-length .result) (length-told (s .pre .2) (s .args .quoted) (l .loop .i) (omega (arith, l .before .blocks-of .ensures)) (c .before .before .before .before .before .before .before .before .before .before .run-length .ensures .0)) (omega (arith, l .before .blocks-of .ensures)) (c .before .before .before .before .before .before .before .copy-short .ensures .1) (c .before .before .write-escape .ensures)
+
+write-tail-requires : tie.Need-write-tail-requires Inv-loop μ-loop
+write-tail-requires c κs =
+    let l = c .before .before in
+    let s = c .before .before .before .before .before .before .before .before in
+    (s .pre .0, omega (arith, s .pre .1, l .loop .inv .size), l .loop .inv .within, s .pre .2)
 
 same-length-2 : tie.Need-same-length-2 Inv-loop μ-loop
-same-length-2 c = c .before .loop .inv .size
+same-length-2 c = c .before .before .write-tail .ensures .size ∙ c .before .before .before .before .before .loop .inv .size
 
 returns-2 : tie.Need-returns-2 Inv-loop μ-loop
-returns-2 c =
-    let l = c .before in
-    let s = l .before .before .before .before in
-    left-end (s .args .quoted) (now (s .args .value)) (now (s .args .out)) (s .args .at) (l .loop .inv) (omega arith)
+returns-2 c = c .before .before .before .before .before .loop .inv .whole (c .before .before .write-tail .ensures)
 
 pub write-runs-spec : {M : Type 1} → statement M
 write-runs-spec =
@@ -100,22 +114,27 @@ write-runs-spec =
     (tie.spec
     Inv-loop
     μ-loop
+    blocks-of-requires
+    sub-limit
     loop-holds
-    run-end-requires
+    put-each-requires
+    same-length
+    returns
+    run-length-requires
+    end-of-requires
     sub-put-bytes
     part-put-bytes-start
     part-put-bytes-end
     put-bytes-requires
-    same-length
-    returns
-    sub-put-run
-    part-put-run-start
-    part-put-run-end
-    put-run-requires
-    shared-slice-read-write-byte
-    write-byte-requires
-    add-i
     loop-less
     loop-again
+    add-end
+    copy-short-requires
+    shared-slice-read-write-escape
+    write-escape-requires
+    add-i
+    loop-less-2
+    loop-again-2
+    write-tail-requires
     same-length-2
     returns-2)

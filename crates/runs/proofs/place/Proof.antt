@@ -1,0 +1,16 @@
+-- `runs::place` meets its contract.
+-- Assumes nothing.
+use mathlib.Core.Path.{refl}
+use borrow.Author.Needs.{needs}
+use Rattle.runs.proofs.Runs.{bool-small}
+use Rattle.runs.proofs.place.Statement.{statement}
+use Rattle.runs.proofs.place.Tie as tie
+
+cast-result : tie.Need-cast-result
+cast-result c = search needs
+
+returns : tie.Need-returns
+returns c = (refl, bool-small (c .args .quoted))
+
+pub place-spec : {M : Type 1} → statement M
+place-spec = tie.close (tie.spec cast-result returns)
