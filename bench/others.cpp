@@ -4,18 +4,27 @@
    memory; and how many names are wrong afterwards: an element or attribute whose prefix does not mean its URI by the
    declarations in scope. Of a file of many bundles, each behind its 32-bit length, the wrong results are counted, and how
    often normalization was given up with an exception.
-   Usage: others BUNDLE..., or others --many FILE */
+   With --bars it goes through the trees of such a file one after the other, and through one tree in a loop, which hides the
+   branches that go another way in each tree; through their texts, with pugixml's and libxml2's writers beside; and through a
+   small bundle, with an earlier build of this library beside, if there is one. It exits 1 where a ratio is beyond its bar.
+   Usage: others BUNDLE..., others --many FILE, or others --bars FILE BUNDLE SMALL [EARLIER.so] */
 #include <noemathu.h>
+#include <algorithm>
 #include <chrono>
 #include <cstdio>
 #include <cstdlib>
+#include <cstring>
 #include <fstream>
 #include <functional>
 #include <iterator>
+#include <list>
 #include <map>
+#include <numeric>
 #include <string>
 #include <vector>
+#include <dlfcn.h>
 #include <libxml/tree.h>
+#include <pugixml.hpp>
 #include <xercesc/dom/DOM.hpp>
 #include <xercesc/util/PlatformUtils.hpp>
 #include <xercesc/util/XMLString.hpp>
@@ -383,15 +392,24 @@ static void compare(const char *path)
                    best[way].wrong);
 }
 
-static void count_wrong(const char *path)
+/* The bundles of a file, each behind its length. */
+static vector<vector<uint8_t>> bundles_of(const char *path)
 {
     vector<uint8_t> all = contents(path);
-    size_t trees = 0, names = 0, wrong_trees[WAYS] = {0}, wrong[WAYS] = {0}, given_up[WAYS] = {0};
+    vector<vector<uint8_t>> bundles;
     for (size_t at = 0; at + 4 <= all.size();) {
         size_t length = noemathu_number(&all[at], 4);
-        vector<uint8_t> bundle(all.begin() + static_cast<long>(at) + 4, all.begin() + static_cast<long>(at + 4 + length));
-        Tree tree = tree_of(bundle);
+        bundles.emplace_back(all.begin() + static_cast<long>(at) + 4, all.begin() + static_cast<long>(at + 4 + length));
         at += 4 + length;
+    }
+    return bundles;
+}
+
+static void count_wrong(const char *path)
+{
+    size_t trees = 0, names = 0, wrong_trees[WAYS] = {0}, wrong[WAYS] = {0}, given_up[WAYS] = {0};
+    for (const vector<uint8_t> &bundle : bundles_of(path)) {
+        Tree tree = tree_of(bundle);
         trees++;
         for (const Node &node : tree)
             names += node.type == NOEMATHU_ELEMENT || node.type == NOEMATHU_ATTRIBUTE;
@@ -408,14 +426,250 @@ static void count_wrong(const char *path)
                given_up[way]);
 }
 
+/* ---- the bars */
+
+typedef vector<vector<uint8_t>> Bundles;
+typedef noemathu_used (*Normalize)(const uint8_t *, size_t, uint8_t *, size_t);
+typedef void (*Reconcile)(xmlDocPtr, xmlNodePtr);
+
+static int missed;
+
+static void hold(const char *what, double ratio, double most)
+{
+    printf("  %s: %.2f, of %.2f that may be%s\n", what, ratio, most, ratio > most ? ": BEYOND" : "");
+    missed += ratio > most;
+}
+
+/* What each tree has taken at least, in several rounds through all of them, one after the other: so what else the machine does
+   counts little. */
+class Least {
+    vector<double> seconds;
+    size_t at = 0;
+
+public:
+    void add(double taken)
+    {
+        if (at == seconds.size())
+            seconds.push_back(taken);
+        seconds[at] = std::min(seconds[at], taken);
+        at++;
+    }
+    void next_round() { at = 0; }
+    double sum() const { return std::accumulate(seconds.begin(), seconds.end(), 0.0); }
+    double microseconds() const { return 1e6 * sum() / static_cast<double>(seconds.size()); }
+};
+
+/* A round through all trees; what is done with one answers the seconds it took. */
+template <typename All, typename Deal> static void round(Least &least, const All &all, Deal deal)
+{
+    least.next_round();
+    for (auto &one : all)
+        least.add(deal(one));
+}
+
+static double normalized(const vector<uint8_t> &bundle, Normalize normalize, size_t room)
+{
+    static uint8_t out[NOEMATHU_BUNDLE_MOST];
+    auto began = Clock::now();
+    noemathu_used used = normalize(bundle.data(), bundle.size(), out, room);
+    double seconds = since(began);
+    if (used.refusal.number)
+        exit(2);
+    return seconds;
+}
+
+static double reconciled(const Libxml2 &made, Reconcile reconcile)
+{
+    auto began = Clock::now();
+    reconcile(made.document, xmlDocGetRootElement(made.document));
+    return since(began);
+}
+
+/* The names that a way leaves wrong in all trees. */
+static size_t all_wrong(const Way &way, const Bundles &bundles, const vector<Tree> &trees)
+{
+    size_t wrong = 0;
+    for (size_t i = 0; i < trees.size(); i++)
+        wrong += tried(way, bundles[i], trees[i]).wrong;
+    return wrong;
+}
+
+/* Tells what each way took for all trees, and how many names it leaves wrong; answers our share of the time of libxml2's
+   fastest. */
+static double told(const char *what, const Least (&least)[3], const Bundles &bundles, const vector<Tree> &trees)
+{
+    printf("%s:\n", what);
+    for (int way = 0; way < 3; way++)
+        printf("  %s: %.1f us, %.2f of the time, %zu wrong\n", ways[way].name, least[way].microseconds(),
+               least[way].sum() / least[0].sum(), all_wrong(ways[way], bundles, trees));
+    return least[0].sum() / std::min(least[1].sum(), least[2].sum());
+}
+
+static const Reconcile reconcilers[] = {reconciliate, wrap_reconcile};
+
+static double by_default(const vector<uint8_t> &bundle)
+{
+    return normalized(bundle, noemathu_normalize, NOEMATHU_BUNDLE_MOST);
+}
+
+/* Different trees, one after the other. All of libxml2's are made before, as all bundles are there. */
+static double different_trees(const Bundles &bundles)
+{
+    Least least[3];
+    vector<Tree> trees;
+    for (const vector<uint8_t> &bundle : bundles)
+        trees.push_back(tree_of(bundle));
+    for (int run = 0; run < RUNS; run++) {
+        round(least[0], bundles, by_default);
+        for (int way = 0; way < 2; way++) {
+            std::list<Libxml2> made(trees.begin(), trees.end());
+            round(least[way + 1], made, [&](const Libxml2 &one) { return reconciled(one, reconcilers[way]); });
+        }
+    }
+    return told("a hundred different typical trees, one after the other", least, bundles, trees);
+}
+
+/* One tree in a loop. libxml2's, which it changes, is made anew each time. */
+static double one_tree(const vector<uint8_t> &bundle)
+{
+    Least least[3];
+    Bundles bundles(1, bundle);
+    vector<Tree> trees(1, tree_of(bundle));
+    for (int run = 0; run < 20 * RUNS; run++) {
+        for (int times = 0; times < 10; times++)
+            round(least[0], bundles, by_default);
+        for (int way = 0; way < 2; way++)
+            round(least[way + 1], trees, [&](const Tree &tree) { return reconciled(Libxml2(tree), reconcilers[way]); });
+    }
+    return told("one typical tree in a loop", least, bundles, trees);
+}
+
+/* Keeps what pugixml writes, in room that is there already. */
+struct Kept : pugi::xml_writer {
+    vector<char> room;
+    size_t held = 0;
+    explicit Kept(size_t size) : room(size) {}
+    void write(const void *data, size_t size) override
+    {
+        if (held + size > room.size())
+            room.resize(2 * (held + size));
+        memcpy(room.data() + held, data, size);
+        held += size;
+    }
+};
+
+/* The tree as pugixml holds it. */
+static void fill(pugi::xml_document &document, const Tree &tree)
+{
+    vector<pugi::xml_node> nodes(tree.size());
+    for (size_t i = 0; i < tree.size(); i++) {
+        const Node &node = tree[i];
+        pugi::xml_node parent = node.parent == NO_ROW ? document : nodes[node.parent];
+        if (node.type == NOEMATHU_ELEMENT)
+            nodes[i] = parent.append_child(qualified(node.prefix, node.local_name).c_str());
+        else if (node.type == NOEMATHU_TEXT)
+            parent.append_child(pugi::node_pcdata).set_value(node.value.c_str());
+        else if (node.type == NOEMATHU_ATTRIBUTE || node.type == NOEMATHU_DECLARATION)
+            parent.append_attribute(qualified(node.type == NOEMATHU_ATTRIBUTE ? node.prefix : "xmlns", node.local_name).c_str())
+                .set_value(node.value.c_str());
+        else
+            nodes[i] = document;
+    }
+}
+
+/* The texts of the trees as they are when they are normalized. */
+static void texts(const Bundles &bundles)
+{
+    Least least[3];
+    Bundles normalized;
+    vector<Tree> trees;
+    size_t room = 0;
+    for (const vector<uint8_t> &bundle : bundles) {
+        vector<uint8_t> out(NOEMATHU_BUNDLE_MOST);
+        out.resize(noemathu_normalize(bundle.data(), bundle.size(), out.data(), out.size()).bytes);
+        room = std::max(room, noemathu_xml_room(out.data()));
+        normalized.push_back(out);
+        trees.push_back(tree_of(out));
+    }
+    vector<uint8_t> text(room);
+    Kept kept(2 * room);
+    for (int run = 0; run < RUNS; run++) {
+        round(least[0], normalized, [&](const vector<uint8_t> &bundle) {
+            auto began = Clock::now();
+            noemathu_used used =
+                noemathu_write_xml(bundle.data(), bundle.size(), 0, text.data(), noemathu_xml_room(bundle.data()));
+            double seconds = since(began);
+            if (used.refusal.number)
+                exit(2);
+            return seconds;
+        });
+        round(least[1], trees, [&](const Tree &tree) {
+            pugi::xml_document document;
+            fill(document, tree);
+            kept.held = 0;
+            auto began = Clock::now();
+            document.save(kept, "", pugi::format_raw | pugi::format_no_declaration, pugi::encoding_utf8);
+            return since(began);
+        });
+        round(least[2], trees, [&](const Tree &tree) {
+            Libxml2 made(tree);
+            auto began = Clock::now();
+            xmlBufferPtr buffer = xmlBufferCreateSize(room);
+            xmlNodeDump(buffer, made.document, xmlDocGetRootElement(made.document), 0, 0);
+            double seconds = since(began);
+            xmlBufferFree(buffer);
+            return seconds;
+        });
+    }
+    printf("XML text of the same trees, normalized:\n");
+    printf("  noemathu_xml_room and noemathu_write_xml: %.1f us, 1.00 of the time\n", least[0].microseconds());
+    printf("  pugixml: %.1f us, %.2f of the time\n", least[1].microseconds(), least[1].sum() / least[0].sum());
+    printf("  libxml2: %.1f us, %.2f of the time\n", least[2].microseconds(), least[2].sum() / least[0].sum());
+}
+
+/* A small bundle, many times in turn with an earlier build of this library. */
+static void small(const char *path, const char *earlier)
+{
+    Bundles bundles(100, contents(path));
+    Least least[2];
+    void *library = dlopen(earlier, RTLD_NOW | RTLD_LOCAL);
+    Normalize before = library ? reinterpret_cast<Normalize>(dlsym(library, "noemathu_normalize")) : nullptr;
+    if (!before) {
+        fprintf(stderr, "others: cannot load %s\n", earlier);
+        exit(2);
+    }
+    for (int run = 0; run < 10 * RUNS; run++) {
+        round(least[0], bundles, [](const vector<uint8_t> &bundle) { return normalized(bundle, noemathu_normalize, 1024); });
+        round(least[1], bundles, [&](const vector<uint8_t> &bundle) { return normalized(bundle, before, 1024); });
+    }
+    printf("ten rows, normalized into 1,024 bytes:\n  noemathu_normalize: %.2f us\n  an earlier build: %.2f us\n",
+           least[0].microseconds(), least[1].microseconds());
+    hold("ten rows, by the earlier build", least[0].sum() / least[1].sum(), 0.5);
+}
+
+static int bars(const char *path, const char *one, const char *few, const char *earlier)
+{
+    Bundles different = bundles_of(path);
+    hold("different trees, by libxml2's fastest", different_trees(different), 0.85);
+    hold("one tree, by libxml2's fastest", one_tree(contents(one)), 2.0);
+    texts(different);
+    if (earlier)
+        small(few, earlier);
+    printf("%d beyond what may be\n", missed);
+    return missed > 0;
+}
+
 int main(int argc, char **argv)
 {
+    int status = 0;
     XMLPlatformUtils::Initialize();
     if (argc == 3 && string(argv[1]) == "--many")
         count_wrong(argv[2]);
+    else if (argc > 4 && string(argv[1]) == "--bars")
+        status = bars(argv[2], argv[3], argv[4], argc > 5 ? argv[5] : nullptr);
     else
         for (int i = 1; i < argc; i++)
             compare(argv[i]);
     XMLPlatformUtils::Terminate();
-    return 0;
+    return status;
 }

@@ -4,9 +4,9 @@
 Usage: bench/tables.py DIR
 
 The rows of a table for normalization are those of its result: the table is as much shorter as that adds rows.
-The tables are the same in every run: the generator is seeded, and uses only its own arithmetic.
+The tables are the same in every run: the generator is seeded, and uses only its own arithmetic. A hundred different
+trees (`grown`) stand in one file, each behind its length, a little-endian word.
 """
-import itertools
 import struct
 import sys
 
@@ -45,12 +45,13 @@ class Table:
         self.rows.append((kind, parent, *prefix, *local, *uri, *value))
         return len(self.rows) - 1
 
-    def write(self, path):
+    def bundle(self):
         words = [word for row in self.rows for word in row]
+        return b"NTB" + struct.pack("<HBHI%dI" % len(words), 1, 0, len(self.rows), len(self.pool), *words) + self.pool
+
+    def write(self, path):
         with open(path, "wb") as out:
-            out.write(b"NTB" + struct.pack("<HBHI", 1, 0, len(self.rows), len(self.pool)))
-            out.write(struct.pack("<%dI" % len(words), *words))
-            out.write(self.pool)
+            out.write(self.bundle())
 
 
 def start(table):
@@ -178,26 +179,6 @@ def equal_names(rows):
     return long_parts(rows, 15000, "a")
 
 
-def bucket(name):
-    """The bucket of a name of up to eight bytes in the dictionary (crates/dictionary/specs/Hash.antt)."""
-    low, high = struct.unpack("<II", name.ljust(8, b"\0"))
-    product = (len(name) + low) * 668265263 + high * 374761393
-    return (product + product // 2**32) % 2**32 // 65536 % 1024
-
-
-def one_bucket(rows):
-    """Elements whose names all share a bucket of the dictionary."""
-    table = Table()
-    root = table.add(1, NONE, local=table.place("root"))
-    letters = "abcdefghijklmnopqrstuvwxyz"
-    for name in map("".join, itertools.product(letters, repeat=5)):
-        if len(table.rows) == rows:
-            break
-        if bucket(name.encode()) == 7:
-            table.add(1, root, local=table.place(name))
-    return table
-
-
 def chain(rows):
     """A chain of elements without names in a namespace below an element that declares four prefixes."""
     table = Table()
@@ -280,6 +261,41 @@ def typical(rows):
         table.add(2, element, local=table.place("id"), value=table.place("value%d" % numbers.below(200)))
         add_prefixed(table, element, "type", "z" if numbers.below(10) == 0 else PREFIXES[k], URIS[k])
     return fill(table, elements[0], rows - added)
+
+
+def grown(rows, seed):
+    """A tree as typical ones are, another one for each seed: elements with a prefix, in the default namespace or in none, some
+    with declarations of their own, up to three attributes, and texts; one name in ten to repair."""
+    table, numbers, added = Table(), Numbers(seed), 0
+    elements = [start(table)]
+    table.add(13, elements[0], value=table.place(URIS[numbers.below(4)]))
+    while len(table.rows) + added + 8 <= rows:
+        parent, what = elements[-1 - numbers.below(min(8, len(elements)))], numbers.below(20)
+        if what < 5:
+            table.add(3, parent, value=table.place("text %d" % numbers.below(500)))
+            continue
+        if what == 5:
+            added += 1
+            element = table.add(1, parent, table.place("q%d" % added), table.place("extra"), table.place("urn:extra:%d" % added))
+        elif what == 6:
+            added += 1
+            element = table.add(1, parent, local=table.place(WORDS[numbers.below(17)]))
+        elif what < 10:
+            added += 1
+            element = table.add(1, parent, NOTHING, table.place(WORDS[numbers.below(17)]), table.place(URIS[numbers.below(4)]))
+        else:
+            element = add_element(table, numbers, parent, numbers.below(4))
+        elements.append(element)
+        if numbers.below(20) == 0:
+            table.add(13, element, local=table.place(PREFIXES[numbers.below(4)]), value=table.place(URIS[numbers.below(4)]))
+        first = numbers.below(17)
+        for i in range(numbers.below(4)):
+            if numbers.below(10) == 0:
+                added += 1
+                add_prefixed(table, element, WORDS[(first + i) % 17], "z", URIS[numbers.below(4)])
+            else:
+                add_attribute(table, numbers, element, WORDS[(first + i) % 17])
+    return table
 
 
 def deep(rows):
@@ -426,7 +442,7 @@ def both_declared(rows):
 
 
 CHECKED = (ordinary, cyrillic, accent, apart, one_owner, texts, long_names)
-SLOW = (one_uri, overlapping, equal_names, one_bucket, by_turns_deep, by_turns_wide)
+SLOW = (one_uri, overlapping, equal_names, by_turns_deep, by_turns_wide)
 ASKED = (chain,)
 WRITTEN = (long_texts, prose, escapes, quotes, tagged)
 NORMALIZED = (typical, deep, wide, shadowed, shadowed_once, numbered, references)
@@ -439,11 +455,17 @@ def main():
     for make in CHECKED + ASKED + WRITTEN + NORMALIZED:
         for rows in (250, 500, 1000):
             make(rows).write("%s/%s-%d" % (sys.argv[1], make.__name__, rows))
-    ordinary(10).write("%s/ordinary-10" % sys.argv[1])
+    for make in (ordinary, typical):
+        make(10).write("%s/%s-10" % (sys.argv[1], make.__name__))
+    with open("%s/typical-trees" % sys.argv[1], "wb") as out:
+        for seed in range(100):
+            bundle = grown(1000, 1000 + seed).bundle()
+            out.write(struct.pack("<I", len(bundle)) + bundle)
     for make in CHECKED[:1] + ASKED + WRITTEN[4:] + NORMALIZED + SLOW[-2:] + DEEPEST:
         make(64).write("%s/%s-64" % (sys.argv[1], make.__name__))
     for make in SLOW + DEEPEST:
         make(1024).write("%s/%s-1024" % (sys.argv[1], make.__name__))
 
 
-main()
+if __name__ == "__main__":
+    main()

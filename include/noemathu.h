@@ -564,7 +564,8 @@ static inline bool noemathu_default_is(const uint8_t *bundle, noemathu_found def
 /* A word, 0 to 9, of one of its rows. */
 static inline uint32_t noemathu_word(const uint8_t *bundle, size_t row, size_t word)
 {
-    return noemathu_number(bundle + NOEMATHU_BUNDLE_BYTES(row, 4 * word), 4);
+    const uint8_t *at = bundle + NOEMATHU_BUNDLE_BYTES(row, 4 * word);
+    return (uint32_t)at[0] | (uint32_t)at[1] << 8 | (uint32_t)at[2] << 16 | (uint32_t)at[3] << 24;
 }
 
 /* One of its rows. */
@@ -593,18 +594,61 @@ static inline size_t noemathu_room(const uint8_t *bundle)
     return room < NOEMATHU_BUNDLE_MOST ? room : NOEMATHU_BUNDLE_MOST;
 }
 
+/* Bytes that escapes add to a value in XML text, in a start tag or as a text. */
+static inline size_t noemathu_escapes(const uint8_t *bytes, size_t length, bool in_tag)
+{
+    static const uint8_t added[2][64] = {
+        {0, 0, 0, 0, 0, 0, 0, 0, 0, 0, 0, 0, 0, 4, 0, 0, 0, 0, 0, 0, 0, 0, 0, 0, 0, 0, 0, 0, 0, 0, 0, 0,
+         0, 0, 5, 0, 0, 0, 4, 0, 0, 0, 0, 0, 0, 0, 0, 0, 0, 0, 0, 0, 0, 0, 0, 0, 0, 0, 0, 0, 3, 0, 3, 0},
+        {0, 0, 0, 0, 0, 0, 0, 0, 0, 3, 4, 0, 0, 4, 0, 0, 0, 0, 0, 0, 0, 0, 0, 0, 0, 0, 0, 0, 0, 0, 0, 0,
+         0, 0, 5, 0, 0, 0, 4, 0, 0, 0, 0, 0, 0, 0, 0, 0, 0, 0, 0, 0, 0, 0, 0, 0, 0, 0, 0, 0, 3, 0, 3, 0}};
+    size_t more = 0, k;
+    for (k = 0; k < length; k++)
+        if (bytes[k] < 64)
+            more += added[in_tag][bytes[k]];
+    return more;
+}
+
 /* Bytes that a value takes in XML text, in a start tag or as a text. */
 static inline size_t noemathu_escaped_length(const uint8_t *bytes, size_t length, bool in_tag)
 {
-    size_t room = length, k;
-    for (k = 0; k < length; k++)
-        switch (bytes[k]) {
-        case '"': room += 5; break;
-        case '&': case '\r': room += 4; break;
-        case '<': case '>': room += 3; break;
-        case '\n': room += in_tag ? 4 : 0; break;
-        case '\t': room += in_tag ? 3 : 0; break;
-        default: break;
+    return length + noemathu_escapes(bytes, length, in_tag);
+}
+
+/* Whether a row of a type has a value that XML text has in a start tag, or as a text. */
+static inline bool noemathu_has_value(uint32_t type, bool in_tag)
+{
+    return in_tag ? type == NOEMATHU_ATTRIBUTE || type == NOEMATHU_DECLARATION : type == NOEMATHU_TEXT;
+}
+
+/* Bytes that all values in start tags, or all texts, take in XML text. Values may
+   share their bytes, and be many times the pool together: where they are longer
+   than it, what escapes add is summed up once, at every 64th byte of the pool, and
+   of a value only its ends are looked at. */
+static inline size_t noemathu_values_room(const uint8_t *bundle, bool in_tag)
+{
+    const uint8_t *pool = noemathu_pool(bundle);
+    size_t rows = noemathu_row_count(bundle), bytes = noemathu_pool_length(bundle), room = 0, i;
+    uint32_t sums[NOEMATHU_MOST_POOL / 64 + 1];
+    bool summed;
+    for (i = 0; i < rows; i++)
+        if (noemathu_has_value(noemathu_word(bundle, i, 0), in_tag))
+            room += noemathu_word(bundle, i, 9);
+    if (room == 0)
+        return 0;
+    summed = room > bytes && bytes <= NOEMATHU_MOST_POOL;
+    sums[0] = 0;
+    for (i = 0; summed && i < bytes / 64; i++)
+        sums[i + 1] = sums[i] + (uint32_t)noemathu_escapes(pool + 64 * i, 64, in_tag);
+    for (i = 0; i < rows; i++)
+        if (noemathu_has_value(noemathu_word(bundle, i, 0), in_tag)) {
+            size_t start = noemathu_word(bundle, i, 8), end = start + noemathu_word(bundle, i, 9);
+            if (summed && end - start > 64) {
+                room += sums[end / 64] + noemathu_escapes(pool + end / 64 * 64, end % 64, in_tag);
+                room -= sums[start / 64] + noemathu_escapes(pool + start / 64 * 64, start % 64, in_tag);
+            } else {
+                room += noemathu_escapes(pool + start, end - start, in_tag);
+            }
         }
     return room;
 }
@@ -613,19 +657,16 @@ static inline size_t noemathu_escaped_length(const uint8_t *bytes, size_t length
    exactly as many where one element holds all rows. */
 static inline size_t noemathu_xml_room(const uint8_t *bundle)
 {
-    size_t rows = noemathu_row_count(bundle), room = 0, i;
+    size_t rows = noemathu_row_count(bundle), i;
+    size_t room = noemathu_values_room(bundle, false) + noemathu_values_room(bundle, true);
     for (i = 0; i < rows; i++) {
-        noemathu_row row = noemathu_row_of(bundle, i);
-        bool element = row.type == NOEMATHU_ELEMENT, declaration = row.type == NOEMATHU_DECLARATION;
-        bool in_tag = row.type == NOEMATHU_ATTRIBUTE || declaration;
-        size_t prefix = declaration ? 5 : row.prefix.length, local_name = row.local_name.length;
-        size_t name = prefix + (prefix > 0 && local_name > 0) + local_name;
-        if (element)
-            room += 2 * name + 5;
-        else if (in_tag)
-            room += name + 4 + noemathu_escaped_length(noemathu_bytes(bundle, row.value), row.value.length, true);
-        else if (row.type == NOEMATHU_TEXT)
-            room += noemathu_escaped_length(noemathu_bytes(bundle, row.value), row.value.length, false);
+        uint32_t type = noemathu_word(bundle, i, 0);
+        if (type == NOEMATHU_ELEMENT || noemathu_has_value(type, true)) {
+            size_t prefix = type == NOEMATHU_DECLARATION ? 5 : noemathu_word(bundle, i, 3);
+            size_t local_name = noemathu_word(bundle, i, 5);
+            size_t name = prefix + (prefix > 0 && local_name > 0) + local_name;
+            room += type == NOEMATHU_ELEMENT ? 2 * name + 5 : name + 4;
+        }
     }
     return room;
 }

@@ -889,6 +889,29 @@ static void longest_text(void)
     munmap(all, pages + 2 * PAGE);
 }
 
+/* Texts and attributes that share their bytes, wherever they start and end: what noemathu_xml_room says is enough is what they
+   take. */
+static void shared_values(void)
+{
+    static const char bytes[] = "a&b<c>d\"e\rf\ng\th....";
+    size_t length = make_large(1024, 32768, NOEMATHU_TEXT, false);
+    for (size_t k = 1; k < 32768; k++)
+        large[NOEMATHU_BUNDLE_BYTES(1024, k)] = (uint8_t)bytes[k * k / 7 % (sizeof bytes - 1)];
+    for (size_t i = 1; i < 1024; i++) {
+        set_word(i, 8, (uint32_t)(i * i * 31 % 30000));
+        set_word(i, 9, (uint32_t)(1 + i * 29 % (i % 3 ? 150 : 2700)));
+    }
+    set_word(7, 0, NOEMATHU_ATTRIBUTE);
+    set_word(7, 5, 1);
+    EXPECT(is_refusal(noemathu_check(large, length), 0, 0));
+    size_t exact = noemathu_xml_room(large);
+    uint8_t *out = malloc(exact);
+    EXPECT(out != NULL);
+    EXPECT(noemathu_write_xml(large, length, 0, out, exact).bytes == exact);
+    EXPECT(is_refusal(noemathu_write_xml(large, length, 0, out, exact - 1).refusal, 22, 0));
+    free(out);
+}
+
 /* Elements in each other, as deep as can be. */
 static void deepest_text(void)
 {
@@ -1150,6 +1173,7 @@ int main(void)
     every_character();
     largest();
     longest_text();
+    shared_values();
     deepest_text();
     beyond_the_limits();
     helpers();
