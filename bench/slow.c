@@ -16,7 +16,7 @@ static size_t length, rows, bytes, text_room;
 static const uint8_t *query;
 static uint8_t *text;
 
-/* What the last run answered: the refusal, and how many bytes it wrote or may have written. */
+/* What the last run answered: the refusal, and how many bytes of XML text and zeros it wrote. */
 static noemathu_refusal refusal;
 static size_t written;
 
@@ -56,7 +56,7 @@ static void write_bundle(void)
 static void write_into(size_t room)
 {
     refusal = noemathu_write_xml(bundle, length, 0, text, room).refusal;
-    written = refusal.number == NOEMATHU_NOT_REFUSED || refusal.number == NOEMATHU_REFUSED_TEXT_ROOM ? room : 0;
+    written = room; /* all of it: the text and zeros, or zeros alone */
 }
 
 static void xml_none(void) { write_into(0); }

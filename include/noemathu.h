@@ -165,15 +165,15 @@ extern "C" {
    a bundle needs see noemathu_xml_room. */
 #define NOEMATHU_XML_MOST 201124912
 
-/* Bytes of stack that are enough for any call. Measured were at most 69,208 for
-   noemathu_write, 112,760 for noemathu_check and noemathu_read, 116,040 for the
-   lookups, 178,848 for noemathu_write_xml and 231,712 for noemathu_normalize. */
+/* Bytes of stack that are enough for any call. Measured were at most 86,624 for
+   noemathu_write, 130,240 for noemathu_check and noemathu_read, 133,536 for the
+   lookups, 240,888 for noemathu_write_xml and 223,760 for noemathu_normalize. */
 #define NOEMATHU_STACK 262144
 
 /* A small bundle, or a small table and its pool, and the bytes of stack that are
-   enough for any call on one. Measured were at most 16,840 for
-   noemathu_write, 19,400 for noemathu_check and noemathu_read, 19,912 for the
-   lookups, 30,696 for noemathu_write_xml and 30,264 for noemathu_normalize. */
+   enough for any call on one. Measured were at most 26,032 for
+   noemathu_write, 28,624 for noemathu_check and noemathu_read, 29,136 for the
+   lookups, 31,568 for noemathu_write_xml and 39,504 for noemathu_normalize. */
 #define NOEMATHU_FEW_ROWS 64
 #define NOEMATHU_SHORT_POOL 4096
 #define NOEMATHU_SMALL_STACK 40960
