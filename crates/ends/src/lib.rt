@@ -39,7 +39,7 @@ pub fn good_part(ends: &[u16], pool: &[u8], start: usize, end: usize, colons: bo
     let next = start / BLOCK + 1;
     let stop = BLOCK * next;
     if end <= stop {
-        return names::good_name(&pool[start..end], colons);
+        return good_names::good_name(&pool[start..end], colons);
     }
     reached_part(pool, start, stop, index(ends[next]), end, colons)
 }
@@ -57,7 +57,7 @@ fn reached_part(
     requires { ⌜ (start < stop) × (stop < end) × (end ≤ length (now pool)) ⌝ }
     ensures { λ r. ⌜ r ≡ goodName colons (between (now (pool .entry)) start end) ⌝ }
 {
-    if !names::good_name(&pool[start..stop], colons) {
+    if !good_names::good_name(&pool[start..stop], colons) {
         return false;
     }
     if end <= reach {
@@ -87,7 +87,7 @@ fn all_named(bytes: &[u8], colons: bool) -> bool
 {
     let mut i = 0;
     while i < bytes.len() {
-        if !names::is_name_byte(bytes[i], colons) {
+        if !good_names::is_name_byte(bytes[i], colons) {
             return false;
         }
         i += 1;

@@ -2,17 +2,18 @@
 // eights the last one overlaps the one before it. There is no key in it, so names can be made that all
 // share a bucket; each then costs a walk past all the others.
 ghost use mathlib.Core.Path.{_≡_};
-ghost use Prim.Native.Nat.{_+_, _/_, _%_, _≤_, _<_};
+ghost use Prim.Native.Nat.{_+_, _≤_, _<_};
 ghost use lib.ListN.{length};
 ghost use Rattle.hash.specs.Hash.{four, mixed, mixedLong, mixedShort, hashOf};
 
+// The upper half of what the steps give.
 pub fn hash_of(name: &[u8]) -> u16
     ensures { λ r. ⌜ r ≡ hashOf (now (name .entry)) ⌝ }
 {
     if name.len() < 8 {
-        return top(mix_short(name));
+        return (mix_short(name) / 65536 % 65536) as u16;
     }
-    top(mix_long(name))
+    (mix_long(name) / 65536 % 65536) as u16
 }
 
 // A name of eight bytes or more.
@@ -56,13 +57,6 @@ fn mix(h: u32, low: u32, high: u32) -> u32
 {
     let product = (h as u64 + low as u64) * 668265263 + high as u64 * 374761393;
     ((product + product / 4294967296) % 4294967296) as u32
-}
-
-// The upper half of a step's result.
-fn top(h: u32) -> u16
-    ensures { λ r. ⌜ r ≡ h / 65536 % 65536 ⌝ }
-{
-    (h / 65536 % 65536) as u16
 }
 
 // The four bytes from i on as a number: the compiler makes one read of them.

@@ -168,6 +168,12 @@ module _ (base : ℕ) where
   unfolding sumFrom
   sum-done h i bs l = rw (drop-of-length-le bs l) refl
 
+  pub sum-last :
+      (h i : ℕ) (bs : List ℕ) → i < length bs → length bs ≤ i + 1 → {b r : ℕ} → b ≡ getD bs i 0 → r ≡ pushed base h (b + 1)
+      → r ≡ sumFrom base h (drop i bs)
+  sum-last h i bs l e f g =
+      g ∙ ap (λ (x : ℕ). pushed base h (x + 1)) f ∙ sym (sum-done (pushed base h (getD bs i 0 + 1)) (i + 1) bs e) ∙ sum-step h i bs l
+
 -- Products of two words of 32 bits.
 pub product : (a b : ℕ) → a < 4294967296 → b < 4294967296 → a * b ≤ 18446744065119617025
 product a b h l = mul-le-mul {n₂ = 4294967295} {m₂ = 4294967295} (omega arith) (omega arith)

@@ -4,9 +4,6 @@ ghost use mathlib.Core.Path.{_≡_};
 ghost use Prim.Native.Nat.{_+_, _-_, _%_, _≤_, _<_};
 ghost use Rattle.keyed.specs.Keyed.{PRIME, pushed, sumFrom, raisedFrom};
 
-pub mod seed;
-pub mod table;
-
 const PRIME: u64 = 4294967087;
 
 // Two polynomials, two bases or two powers.
@@ -35,31 +32,12 @@ pub fn summed(bytes: &[u8], bases: Pair, from: Pair) -> Pair
         two = push_two(base2, square2, two, first, second);
         i += 2;
     }
-    summed_singly(
-        &bytes[i..],
-        Pair {
-            one: base1,
-            two: base2,
-        },
-        Pair { one, two },
-    )
-}
-
-// The same, a byte a step.
-fn summed_singly(bytes: &[u8], bases: Pair, from: Pair) -> Pair
-    ensures { λ r. ⌜ r .one ≡ sumFrom (bases .one) (from .one) (now (bytes .entry)) ⌝ }
-    ensures { λ r. ⌜ r .two ≡ sumFrom (bases .two) (from .two) (now (bytes .entry)) ⌝ }
-{
-    let base1 = bases.one;
-    let base2 = bases.two;
-    let mut one = from.one;
-    let mut two = from.two;
-    let mut i = 0;
-    while i < bytes.len() {
-        let term = wide(bytes[i]) + 1;
-        one = push(base1, one, term);
-        two = push(base2, two, term);
-        i += 1;
+    if i < bytes.len() {
+        let last = wide(bytes[i]) + 1;
+        return Pair {
+            one: push(base1, one, last),
+            two: push(base2, two, last),
+        };
     }
     Pair { one, two }
 }

@@ -8,7 +8,8 @@ use borrow.Author.Tests.{eq-eqb, ne-eqb}
 use lib.ListN.{length, getD, take, drop, length-drop}
 use lib.Seq.{take-all}
 use Rattle.hash.specs.Hash.{hashOf}
-use Rattle.keyed.specs.Keyed.{numberAt, sumFrom}
+use Rattle.keyed.specs.Keyed.{sumFrom}
+use Rattle.sum_tables.specs.SumTables.{numberAt}
 use Rattle.tables.specs.Tables.{MADE, ONE, TWO, keyedHash, hashIn}
 
 pub keyed-folded :

@@ -1,2 +1,1 @@
 pub mod Hashes
-pub mod Filling

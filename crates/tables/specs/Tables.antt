@@ -8,7 +8,8 @@ use lib.ListN.{length, getD, set, drop}
 use Rattle.marks.specs.Marks.{Marked}
 use Rattle.ends.specs.Ends.{Ended}
 use Rattle.hash.specs.Hash.{hashOf}
-use Rattle.keyed.specs.Keyed.{numberAt, sumFrom, Filled}
+use Rattle.keyed.specs.Keyed.{sumFrom}
+use Rattle.sum_tables.specs.SumTables.{numberAt, Filled}
 
 abbrev pub MADE : ℕ
 MADE = 0

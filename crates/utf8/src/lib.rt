@@ -1,18 +1,10 @@
 // Well-formed UTF-8, by the table of byte sequences of RFC 3629, section 4.
 ghost use mathlib.Core.Path.{_≡_};
-ghost use Prim.Native.Nat.{_<_, _≤_};
+ghost use Prim.Native.Nat.{_<_};
 ghost use lib.ListN.{length, getD};
 ghost use Rattle.rules.specs.Lists.{allOf};
-ghost use Rattle.rules.specs.Utf8.{following, wellFormed, isAscii, isIn};
-ghost use Rattle.utf8.specs.Steps.{rangesOf, Step};
-
-// The length of a sequence and the bounds of its second byte, as its first byte tells them. Length 0:
-// no sequence starts with that byte.
-struct Line {
-    length: usize,
-    low: u8,
-    high: u8,
-}
+ghost use Rattle.rules.specs.Utf8.{wellFormed, isAscii, isIn};
+ghost use Rattle.utf8.specs.Steps.{Step};
 
 // The bytes are well-formed.
 pub fn well_formed(bytes: &[u8]) -> bool
@@ -82,7 +74,7 @@ fn sequence(bytes: &[u8], i: usize) -> usize
     requires { ⌜ i < length (now bytes) ⌝ }
     ensures { λ r. ⌜ Step (now (bytes .entry)) i r ⌝ }
 {
-    let line = line_of(bytes[i]);
+    let line = utf8_table::line_of(bytes[i]);
     let length = line.length;
     if length == 0 {
         return 0;
@@ -109,46 +101,6 @@ fn sequence(bytes: &[u8], i: usize) -> usize
         return 0;
     }
     4
-}
-
-// What a first byte tells.
-fn line_of(first: u8) -> Line
-    ensures { λ r. ⌜ (rangesOf (r .length) (r .low) (r .high) ≡ following first) × (r .length ≤ 4) ⌝ }
-{
-    if first <= 0x7F {
-        return line_with(1, 0x80, 0xBF);
-    }
-    if first <= 0xC1 {
-        return line_with(0, 0x80, 0xBF);
-    }
-    if first <= 0xDF {
-        return line_with(2, 0x80, 0xBF);
-    }
-    if first == 0xE0 {
-        return line_with(3, 0xA0, 0xBF);
-    }
-    if first == 0xED {
-        return line_with(3, 0x80, 0x9F);
-    }
-    if first <= 0xEF {
-        return line_with(3, 0x80, 0xBF);
-    }
-    if first == 0xF0 {
-        return line_with(4, 0x90, 0xBF);
-    }
-    if first <= 0xF3 {
-        return line_with(4, 0x80, 0xBF);
-    }
-    if first == 0xF4 {
-        return line_with(4, 0x80, 0x8F);
-    }
-    line_with(0, 0x80, 0xBF)
-}
-
-fn line_with(length: usize, low: u8, high: u8) -> Line
-    ensures { λ r. ⌜ (rangesOf (r .length) (r .low) (r .high) ≡ rangesOf length low high) × (r .length ≡ length) ⌝ }
-{
-    Line { length, low, high }
 }
 
 // The byte is in the range.

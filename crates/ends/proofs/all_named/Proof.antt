@@ -9,7 +9,7 @@ use denote.Ref.{now}
 use lib.ListN.{length, drop}
 use Rattle.rules.specs.Lists.{allOf}
 use Rattle.rules.specs.Refusals.{isNameByte}
-use Rattle.names.proofs.Bytes.{all-step, all-fails, all-end}
+use Rattle.good_names.proofs.Bytes.{all-step, all-fails, all-end}
 use Rattle.ends.proofs.all_named.Statement.{statement}
 use Rattle.ends.proofs.all_named.Tie as tie
 

@@ -1,5 +1,6 @@
 -- `hash_of` meets its contract.
 -- Assumes nothing.
+use mathlib.Core.Path.{refl}
 use native.Mathlib.Omega.{arith}
 use denote.Ref.{now}
 use Rattle.hash.proofs.Hashing.{hash-short, hash-long}
@@ -10,20 +11,20 @@ use Rattle.hash.proofs.hash_of.Tie as tie
 mix-short-requires : tie.Need-mix-short-requires
 mix-short-requires c κs = search needs
 
-top-requires : tie.Need-top-requires
-top-requires c κs = search needs
+cast-result : tie.Need-cast-result
+cast-result c = search needs
 
 returns : tie.Need-returns
-returns c = hash-short (now (c .before .before .before .before .args .name)) (omega (arith, c .before .before .if1 .taken)) (c .before .mix-short .ensures) (c .top .ensures)
+returns c = hash-short (now (c .before .before .before .args .name)) (omega (arith, c .before .if1 .taken)) (c .mix-short .ensures) refl
 
 mix-long-requires : tie.Need-mix-long-requires
 mix-long-requires c κs = search needs
 
-top-requires-2 : tie.Need-top-requires-2
-top-requires-2 c κs = search needs
+cast-result-2 : tie.Need-cast-result-2
+cast-result-2 c = search needs
 
 returns-2 : tie.Need-returns-2
-returns-2 c = hash-long (now (c .before .before .before .before .args .name)) (omega (arith, c .before .before .if1 .left)) (c .before .mix-long .ensures) (c .top2 .ensures)
+returns-2 c = hash-long (now (c .before .before .before .args .name)) (omega (arith, c .before .if1 .left)) (c .mix-long .ensures) refl
 
 pub hash-of-spec : {M : Type 1} → statement M
-hash-of-spec = tie.close (tie.spec mix-short-requires top-requires returns mix-long-requires top-requires-2 returns-2)
+hash-of-spec = tie.close (tie.spec mix-short-requires cast-result returns mix-long-requires cast-result-2 returns-2)

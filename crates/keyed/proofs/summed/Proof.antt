@@ -1,14 +1,13 @@
 -- `keyed::summed` meets its contract. The invariant: the bytes that are left decide.
 -- Assumes nothing.
 use Prim.Native.Nat.{ℕ, _+_, _-_, _≤_, _<_}
-use mathlib.Core.Path.{_≡_, refl, ap, _∙_}
+use mathlib.Core.Path.{_≡_, refl, sym, ap, _∙_}
 use native.Mathlib.Omega.{arith}
 use denote.Ref.{now}
-use lib.ListN.{length, getD, take, drop, length-drop}
-use lib.Seq.{take-all}
+use lib.ListN.{length, getD, drop}
 use borrow.Author.Needs.{needs}
 use Rattle.keyed.specs.Keyed.{PRIME, pushed, sumFrom}
-use Rattle.keyed.proofs.Sums.{sum-two}
+use Rattle.keyed.proofs.Sums.{sum-done, sum-two, sum-last}
 use Rattle.keyed.proofs.summed.Statement.{statement}
 use Rattle.keyed.proofs.summed.Tie as tie
 
@@ -97,27 +96,38 @@ loop-again c =
       l .inv .6,
     )
 
-sub-summed-singly : tie.Need-sub-summed-singly Inv-loop μ-loop
-sub-summed-singly c = omega arith
+shared-slice-read-wide-3 : tie.Need-shared-slice-read-wide-3 Inv-loop μ-loop
+shared-slice-read-wide-3 c = omega arith
 
-part-summed-singly-start : tie.Need-part-summed-singly-start Inv-loop μ-loop
-part-summed-singly-start c = omega arith
+wide-requires-3 : tie.Need-wide-requires-3 Inv-loop μ-loop
+wide-requires-3 c κs = search needs
 
-part-summed-singly-end : tie.Need-part-summed-singly-end Inv-loop μ-loop
-part-summed-singly-end c = omega arith
+add-last : tie.Need-add-last Inv-loop μ-loop
+add-last c = omega arith
 
-summed-singly-requires : tie.Need-summed-singly-requires Inv-loop μ-loop
-summed-singly-requires c κs = search needs
+push-requires-3 : tie.Need-push-requires-3 Inv-loop μ-loop
+push-requires-3 c κs = search needs
+
+push-requires-4 : tie.Need-push-requires-4 Inv-loop μ-loop
+push-requires-4 c κs = search needs
 
 returns : tie.Need-returns Inv-loop μ-loop
 returns c =
-    let l = c .before .before .before .loop in
-    let s = c .before .before .before .before .before .before .before in
+    let l = c .before .before .before .before .before .before .loop in
+    let s = c .before .before .before .before .before .before .before .before .before .before in
     let bytes = now (s .args .bytes) in
-    let e = c .summed-singly .ensures in
-    let rest : take (length bytes - l .i) (drop (l .i) bytes) ≡ drop (l .i) bytes = take-all (length bytes - l .i) (drop (l .i) bytes) (rw length-drop (omega arith)) in (
-      e .0 ∙ ap (sumFrom (s .args .bases .one) (l .one)) rest ∙ l .inv .3,
-      e .1 ∙ ap (sumFrom (s .args .bases .two) (l .two)) rest ∙ l .inv .4,
+    let last = c .before .before .wide3 .ensures .0 in (
+      sum-last (s .args .bases .one) (l .one) (l .i) bytes (omega arith) (omega arith) last (c .before .push3 .ensures .0) ∙ l .inv .3,
+      sum-last (s .args .bases .two) (l .two) (l .i) bytes (omega arith) (omega arith) last (c .push4 .ensures .0) ∙ l .inv .4,
+    )
+
+returns-2 : tie.Need-returns-2 Inv-loop μ-loop
+returns-2 c =
+    let l = c .before .before .loop in
+    let s = c .before .before .before .before .before .before in
+    let bytes = now (s .args .bytes) in (
+      sym (sum-done (s .args .bases .one) (l .one) (l .i) bytes (omega arith)) ∙ l .inv .3,
+      sym (sum-done (s .args .bases .two) (l .two) (l .i) bytes (omega arith)) ∙ l .inv .4,
     )
 
 pub summed-spec : {M : Type 1} → statement M
@@ -142,8 +152,10 @@ summed-spec =
     add-i
     loop-less
     loop-again
-    sub-summed-singly
-    part-summed-singly-start
-    part-summed-singly-end
-    summed-singly-requires
-    returns)
+    shared-slice-read-wide-3
+    wide-requires-3
+    add-last
+    push-requires-3
+    push-requires-4
+    returns
+    returns-2)

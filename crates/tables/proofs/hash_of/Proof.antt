@@ -18,15 +18,15 @@ returns c =
     let s = c .before .before .before .before .before in
     c .hash-of .ensures ∙ plain-hash (now (s .args .tables)) (now (s .args .name)) (c .before .if1 .taken)
 
-bases-requires : tie.Need-bases-requires
-bases-requires c κs = search needs
+pair-at-requires : tie.Need-pair-at-requires
+pair-at-requires c κs = search needs
 
 keyed-hash-requires : tie.Need-keyed-hash-requires
 keyed-hash-requires c κs = search needs
 
 returns-2 : tie.Need-returns-2
 returns-2 c =
-    let b = c .before .bases in
+    let b = c .before .pair-at in
     let s = c .before .before .before .before .before .before in
     c .keyed-hash .ensures ∙ keyed-hash (now (s .args .tables)) (now (s .args .name)) (c .before .before .if1 .left) (b .ensures .0) (b .ensures .1)
 
@@ -37,6 +37,6 @@ hash-of-spec =
     shared-slice-read-if1
     hash-of-requires
     returns
-    bases-requires
+    pair-at-requires
     keyed-hash-requires
     returns-2)

@@ -1,6 +1,6 @@
 -- `keyed_hash_at` meets its contract.
 -- Assumes nothing.
-use mathlib.Core.Path.{_∙_}
+use mathlib.Core.Path.{refl, _∙_}
 use native.Mathlib.Omega.{arith}
 use denote.Ref.{now}
 use lib.ListN.{length-drop}
@@ -11,8 +11,8 @@ use borrow.Author.Needs.{needs}
 use Rattle.tables.proofs.keyed_hash_at.Statement.{statement}
 use Rattle.tables.proofs.keyed_hash_at.Tie as tie
 
-bases-requires : tie.Need-bases-requires
-bases-requires c κs = search needs
+pair-at-requires : tie.Need-pair-at-requires
+pair-at-requires c κs = search needs
 
 sub-if1 : tie.Need-sub-if1
 sub-if1 c = search needs
@@ -31,7 +31,7 @@ keyed-hash-requires c κs = search needs
 
 returns : tie.Need-returns
 returns c =
-    let b = c .before .before .before .bases in
+    let b = c .before .before .before .pair-at in
     let s = c .before .before .before .before .before .before in
     let made = s .pre .0 .1 in
     c .keyed-hash .ensures ∙ keyed-hash (now (s .args .tables)) (between (now (s .args .pool)) (s .args .start) (s .args .end)) (λ z. omega arith) (b .ensures .0) (b .ensures .1)
@@ -47,31 +47,40 @@ part-sums-of-end c = search needs
 
 sums-of-requires : tie.Need-sums-of-requires
 sums-of-requires c κs =
-    let b = c .before .before .bases in
+    let b = c .before .before .pair-at in
     let s = c .before .before .before .before .before in
     let g = s .pre .0 .0 in
     let i = s .pre .1 in
     let room = g .room in
     rw (b .ensures .0, b .ensures .1, lent (now (s .args .tables)) SUMS (omega arith)) (g .made (s .pre .0 .1) .sums, ((rw length-drop (omega arith), i .2), (i .0, i .1)))
 
-folded-requires : tie.Need-folded-requires
-folded-requires c κs = search needs
+cast-result : tie.Need-cast-result
+cast-result c = search needs
+
+cast-result-2 : tie.Need-cast-result-2
+cast-result-2 c = search needs
+
+add-result : tie.Need-add-result
+add-result c = search needs
+
+cast-result-3 : tie.Need-cast-result-3
+cast-result-3 c = search needs
 
 returns-2 : tie.Need-returns-2
 returns-2 c =
-    let b = c .before .before .before .before .bases in
-    let t = c .before .sums-of in
-    let s = c .before .before .before .before .before .before .before in
+    let b = c .before .before .before .before .before .pair-at in
+    let t = c .before .before .sums-of in
+    let s = c .before .before .before .before .before .before .before .before in
     let made = s .pre .0 .1 in
     let name = between (now (s .args .pool)) (s .args .start) (s .args .end) in
-    keyed-folded (b .result .one) (b .result .two) name (c .folded .ensures) (t .ensures .0) (t .ensures .1)
+    keyed-folded (b .result .one) (b .result .two) name refl (t .ensures .0) (t .ensures .1)
     ∙ keyed-hash (now (s .args .tables)) name (λ z. omega arith) (b .ensures .0) (b .ensures .1)
 
 pub keyed-hash-at-spec : {M : Type 1} → statement M
 keyed-hash-at-spec =
     tie.close
     (tie.spec
-    bases-requires
+    pair-at-requires
     sub-if1
     sub-keyed-hash
     part-keyed-hash-start
@@ -82,5 +91,8 @@ keyed-hash-at-spec =
     part-sums-of-start
     part-sums-of-end
     sums-of-requires
-    folded-requires
+    cast-result
+    cast-result-2
+    add-result
+    cast-result-3
     returns-2)

@@ -1,0 +1,35 @@
+-- `fill_sums` meets its contract.
+-- Assumes nothing.
+use native.Mathlib.Omega.{arith}
+use denote.Ref.{now}
+use Rattle.tables.specs.Tables.{SUMS, PLAIN}
+use Rattle.table_filling.proofs.Filling.{sums-there, kept-behind}
+use borrow.Author.Needs.{needs}
+use Rattle.table_filling.proofs.fill_sums.Statement.{statement}
+use Rattle.table_filling.proofs.fill_sums.Tie as tie
+
+sub-make : tie.Need-sub-make
+sub-make c = search needs
+
+part-make-start : tie.Need-part-make-start
+part-make-start c = search needs
+
+part-make-end : tie.Need-part-make-end
+part-make-end c = search needs
+
+make-requires : tie.Need-make-requires
+make-requires c κs = search needs
+
+same-length : tie.Need-same-length
+same-length c = search needs
+
+returns : tie.Need-returns
+returns c =
+    let m = c .before .before .make in
+    let s = c .before .before .before .before .before .before in
+    let t = now (s .args .tables) in
+    (sums-there t (m .last .0) SUMS PLAIN (omega arith) (omega arith) (m .ensures .1) (now (s .args .pool)) (s .args .bases .one) (s .args .bases .two) (s .pre .1) (omega arith) (m .ensures .0), kept-behind t (m .last .0) SUMS PLAIN (omega arith) (omega arith) (m .ensures .1))
+
+pub fill-sums-spec : {M : Type 1} → statement M
+fill-sums-spec =
+    tie.close (tie.spec sub-make part-make-start part-make-end make-requires same-length returns)
