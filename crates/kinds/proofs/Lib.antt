@@ -1,2 +1,3 @@
 pub mod NameKinds
 pub mod PlainNames
+pub mod Slashes

@@ -41,6 +41,10 @@ abbrev pub firstMet : List (Bool × ℕ) → ℕ → ℕ
 firstMet [] otherwise = otherwise
 firstMet ((test, kind) ∷ later) otherwise = cond test kind (firstMet later otherwise)
 
+-- what is asked of a name that is neither good nor a prefix
+abbrev pub uriTests : List ℕ → List (Bool × ℕ)
+uriTests name = (sameBytes name xmlUri, XML-URI) ∷ (sameBytes name xmlnsUri, XMLNS-URI) ∷ []
+
 abbrev pub kindTests : List ℕ → List (Bool × ℕ)
 kindTests name =
     (isEmpty name, EMPTY)
@@ -49,9 +53,7 @@ kindTests name =
     ∷ (sameBytes name xmlnsPrefix, XMLNS)
     ∷ (goodName false name, GOOD)
     ∷ (goodName true name, GOOD-WITH-COLONS)
-    ∷ (sameBytes name xmlUri, XML-URI)
-    ∷ (sameBytes name xmlnsUri, XMLNS-URI)
-    ∷ []
+    ∷ uriTests name
 
 unfoldable pub kindOf : List ℕ → ℕ
 kindOf name = firstMet (kindTests name) OTHER

@@ -1,8 +1,9 @@
 // What a name is, as far as the rules ask.
 ghost use mathlib.Core.Path.{_≡_};
-ghost use mathlib.Core.Bool.{true};
+ghost use mathlib.Core.Bool.{Bool, true, false};
 ghost use Rattle.rules.specs.Lists.{allOf};
-ghost use Rattle.kinds.specs.Kinds.{kindOf};
+ghost use Rattle.rules.specs.Refusals.{goodName};
+ghost use Rattle.kinds.specs.Kinds.{OTHER, firstMet, uriTests, kindOf};
 ghost use Rattle.kinds.specs.Plain.{isPlainFirst, isPlainByte, isPlain};
 
 // The kinds: empty; a good prefix or local name; one of the two built-in prefixes; good with colons;
@@ -40,10 +41,10 @@ fn plain_kind(name: &[u8]) -> u16
     requires { ⌜ isPlain (now name) ≡ true ⌝ }
     ensures { λ r. ⌜ r ≡ kindOf (now (name .entry)) ⌝ }
 {
-    if names::is_xml(name) {
+    if built_ins::is_xml(name) {
         return XML;
     }
-    if names::is_xmlns(name) {
+    if built_ins::is_xmlns(name) {
         return XMLNS;
     }
     GOOD
@@ -59,22 +60,43 @@ pub fn any_kind(name: &[u8]) -> u16
     if !utf8::well_formed(name) {
         return MALFORMED;
     }
-    if names::is_xml(name) {
+    if built_ins::is_xml(name) {
         return XML;
     }
-    if names::is_xmlns(name) {
+    if built_ins::is_xmlns(name) {
         return XMLNS;
     }
-    if names::good_name(name, false) {
+    if has_slash(name) {
+        return uri_kind(name);
+    }
+    if good_names::good_name(name, false) {
         return GOOD;
     }
-    if names::good_name(name, true) {
+    if good_names::good_name(name, true) {
         return GOOD_WITH_COLONS;
     }
-    if names::is_xml_uri(name) {
+    uri_kind(name)
+}
+
+// A slash stands behind `http:` or `https:`, or where these would end: what has one there is no good name. Most names that
+// are not good are URIs, and are told from it at once.
+fn has_slash(name: &[u8]) -> bool
+    ensures { λ r. ⌜ (r ≡ true → (colons : Bool) → goodName colons (now (name .entry)) ≡ false) ⌝ }
+{
+    if name.len() < 8 {
+        return false;
+    }
+    (name[5] == 47) | (name[6] == 47)
+}
+
+// What a name is that is neither good nor a prefix.
+fn uri_kind(name: &[u8]) -> u16
+    ensures { λ r. ⌜ r ≡ firstMet (uriTests (now (name .entry))) OTHER ⌝ }
+{
+    if built_ins::is_xml_uri(name) {
         return XML_URI;
     }
-    if names::is_xmlns_uri(name) {
+    if built_ins::is_xmlns_uri(name) {
         return XMLNS_URI;
     }
     OTHER
@@ -97,7 +119,31 @@ fn is_plain(name: &[u8]) -> bool
         }
         i += 16;
     }
-    all_plain(&name[i..])
+    few_plain(&name[i..])
+}
+
+// Every one of a few bytes is one of a name of ASCII.
+fn few_plain(bytes: &[u8]) -> bool
+    ensures { λ r. ⌜ r ≡ allOf isPlainByte (now (bytes .entry)) ⌝ }
+{
+    let mut i = 0;
+    while i < bytes.len() {
+        if !is_plain_small_first(bytes[i]) {
+            return false;
+        }
+        i += 1;
+    }
+    true
+}
+
+// As is_plain_byte; the small letters, which most bytes of a name are, come first.
+fn is_plain_small_first(b: u8) -> bool
+    ensures { λ r. ⌜ r ≡ isPlainByte b ⌝ }
+{
+    if (b >= 97) & (b <= 122) {
+        return true;
+    }
+    is_plain_byte(b)
 }
 
 // Every byte is one of a name of ASCII. No byte ends the loop.

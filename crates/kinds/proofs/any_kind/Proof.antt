@@ -3,6 +3,7 @@
 use borrow.Author.Needs.{needs}
 use borrow.Author.Tests.{eq-eqb, ne-eqb}
 use mathlib.Core.Path.{_∙_}
+use mathlib.Core.Bool.{true, false}
 use denote.Ref.{now}
 use lib.ListN.{length}
 use Rattle.rules.proofs.Lists.{length-empty}
@@ -49,21 +50,26 @@ returns-4 c =
     let name = now (t1 .before .before .args .name) in
     rw (length-empty name ∙ ne-eqb (length name) 0 (t1 .if1 .left), ← t2 .before .well-formed .ensures, t2 .if2 .left, ← t3 .before .is-xml .ensures, t3 .if3 .left, ← c .before .is-xmlns .ensures, c .if4 .taken)
 
-good-name-requires : tie.Need-good-name-requires
-good-name-requires c κs = search needs
+has-slash-requires : tie.Need-has-slash-requires
+has-slash-requires c κs = search needs
+
+uri-kind-requires : tie.Need-uri-kind-requires
+uri-kind-requires c κs = search needs
 
 returns-5 : tie.Need-returns-5
 unfolding kindOf
 returns-5 c =
-    let t4 = c .before .before in
+    let t5 = c .before in
+    let h = t5 .before .has-slash .ensures (t5 .if5 .taken) in
+    let t4 = t5 .before .before in
     let t3 = t4 .before .before in
     let t2 = t3 .before .before in
     let t1 = t2 .before .before in
     let name = now (t1 .before .before .args .name) in
-    rw (length-empty name ∙ ne-eqb (length name) 0 (t1 .if1 .left), ← t2 .before .well-formed .ensures, t2 .if2 .left, ← t3 .before .is-xml .ensures, t3 .if3 .left, ← t4 .before .is-xmlns .ensures, t4 .if4 .left, ← c .before .good-name .ensures, c .if5 .taken)
+    rw (length-empty name ∙ ne-eqb (length name) 0 (t1 .if1 .left), ← t2 .before .well-formed .ensures, t2 .if2 .left, ← t3 .before .is-xml .ensures, t3 .if3 .left, ← t4 .before .is-xmlns .ensures, t4 .if4 .left, h false, h true) (c .uri-kind .ensures)
 
-good-name-requires-2 : tie.Need-good-name-requires-2
-good-name-requires-2 c κs = search needs
+good-name-requires : tie.Need-good-name-requires
+good-name-requires c κs = search needs
 
 returns-6 : tie.Need-returns-6
 unfolding kindOf
@@ -74,10 +80,10 @@ returns-6 c =
     let t2 = t3 .before .before in
     let t1 = t2 .before .before in
     let name = now (t1 .before .before .args .name) in
-    rw (length-empty name ∙ ne-eqb (length name) 0 (t1 .if1 .left), ← t2 .before .well-formed .ensures, t2 .if2 .left, ← t3 .before .is-xml .ensures, t3 .if3 .left, ← t4 .before .is-xmlns .ensures, t4 .if4 .left, ← t5 .before .good-name .ensures, t5 .if5 .left, ← c .before .good-name2 .ensures, c .if6 .taken)
+    rw (length-empty name ∙ ne-eqb (length name) 0 (t1 .if1 .left), ← t2 .before .well-formed .ensures, t2 .if2 .left, ← t3 .before .is-xml .ensures, t3 .if3 .left, ← t4 .before .is-xmlns .ensures, t4 .if4 .left, ← c .before .good-name .ensures, c .if6 .taken)
 
-is-xml-uri-requires : tie.Need-is-xml-uri-requires
-is-xml-uri-requires c κs = search needs
+good-name-requires-2 : tie.Need-good-name-requires-2
+good-name-requires-2 c κs = search needs
 
 returns-7 : tie.Need-returns-7
 unfolding kindOf
@@ -89,15 +95,15 @@ returns-7 c =
     let t2 = t3 .before .before in
     let t1 = t2 .before .before in
     let name = now (t1 .before .before .args .name) in
-    rw (length-empty name ∙ ne-eqb (length name) 0 (t1 .if1 .left), ← t2 .before .well-formed .ensures, t2 .if2 .left, ← t3 .before .is-xml .ensures, t3 .if3 .left, ← t4 .before .is-xmlns .ensures, t4 .if4 .left, ← t5 .before .good-name .ensures, t5 .if5 .left, ← t6 .before .good-name2 .ensures, t6 .if6 .left, ← c .before .is-xml-uri .ensures, c .if7 .taken)
+    rw (length-empty name ∙ ne-eqb (length name) 0 (t1 .if1 .left), ← t2 .before .well-formed .ensures, t2 .if2 .left, ← t3 .before .is-xml .ensures, t3 .if3 .left, ← t4 .before .is-xmlns .ensures, t4 .if4 .left, ← t6 .before .good-name .ensures, t6 .if6 .left, ← c .before .good-name2 .ensures, c .if7 .taken)
 
-is-xmlns-uri-requires : tie.Need-is-xmlns-uri-requires
-is-xmlns-uri-requires c κs = search needs
+uri-kind-requires-2 : tie.Need-uri-kind-requires-2
+uri-kind-requires-2 c κs = search needs
 
 returns-8 : tie.Need-returns-8
 unfolding kindOf
 returns-8 c =
-    let t7 = c .before .before in
+    let t7 = c .before in
     let t6 = t7 .before .before in
     let t5 = t6 .before .before in
     let t4 = t5 .before .before in
@@ -105,20 +111,7 @@ returns-8 c =
     let t2 = t3 .before .before in
     let t1 = t2 .before .before in
     let name = now (t1 .before .before .args .name) in
-    rw (length-empty name ∙ ne-eqb (length name) 0 (t1 .if1 .left), ← t2 .before .well-formed .ensures, t2 .if2 .left, ← t3 .before .is-xml .ensures, t3 .if3 .left, ← t4 .before .is-xmlns .ensures, t4 .if4 .left, ← t5 .before .good-name .ensures, t5 .if5 .left, ← t6 .before .good-name2 .ensures, t6 .if6 .left, ← t7 .before .is-xml-uri .ensures, t7 .if7 .left, ← c .before .is-xmlns-uri .ensures, c .if8 .taken)
-
-returns-9 : tie.Need-returns-9
-unfolding kindOf
-returns-9 c =
-    let t7 = c .before .before in
-    let t6 = t7 .before .before in
-    let t5 = t6 .before .before in
-    let t4 = t5 .before .before in
-    let t3 = t4 .before .before in
-    let t2 = t3 .before .before in
-    let t1 = t2 .before .before in
-    let name = now (t1 .before .before .args .name) in
-    rw (length-empty name ∙ ne-eqb (length name) 0 (t1 .if1 .left), ← t2 .before .well-formed .ensures, t2 .if2 .left, ← t3 .before .is-xml .ensures, t3 .if3 .left, ← t4 .before .is-xmlns .ensures, t4 .if4 .left, ← t5 .before .good-name .ensures, t5 .if5 .left, ← t6 .before .good-name2 .ensures, t6 .if6 .left, ← t7 .before .is-xml-uri .ensures, t7 .if7 .left, ← c .before .is-xmlns-uri .ensures, c .if8 .left)
+    rw (length-empty name ∙ ne-eqb (length name) 0 (t1 .if1 .left), ← t2 .before .well-formed .ensures, t2 .if2 .left, ← t3 .before .is-xml .ensures, t3 .if3 .left, ← t4 .before .is-xmlns .ensures, t4 .if4 .left, ← t6 .before .good-name .ensures, t6 .if6 .left, ← t7 .before .good-name2 .ensures, t7 .if7 .left) (c .uri-kind2 .ensures)
 
 pub any-kind-spec : {M : Type 1} → statement M
 any-kind-spec =
@@ -131,12 +124,12 @@ any-kind-spec =
     returns-3
     is-xmlns-requires
     returns-4
-    good-name-requires
+    has-slash-requires
+    uri-kind-requires
     returns-5
-    good-name-requires-2
+    good-name-requires
     returns-6
-    is-xml-uri-requires
+    good-name-requires-2
     returns-7
-    is-xmlns-uri-requires
-    returns-8
-    returns-9)
+    uri-kind-requires-2
+    returns-8)

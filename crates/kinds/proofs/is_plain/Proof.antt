@@ -76,22 +76,22 @@ loop-again c =
     let k : l .i + (l .i + 16 - l .i) ≡ l .i + 16 = omega arith in
     (omega arith, ap (λ (i : ℕ). allOf isPlainByte (drop i name)) (sym k) ∙ part-passes name (l .i + 16 - l .i) (l .i) (a .ensures) (not-false (a .result) (c .if3 .left)) ∙ l .inv .1)
 
-sub-all-plain-2 : tie.Need-sub-all-plain-2 Inv-loop μ-loop
-sub-all-plain-2 c = omega arith
+sub-few-plain : tie.Need-sub-few-plain Inv-loop μ-loop
+sub-few-plain c = omega arith
 
-part-all-plain-start-2 : tie.Need-part-all-plain-start-2 Inv-loop μ-loop
-part-all-plain-start-2 c = omega arith
+part-few-plain-start : tie.Need-part-few-plain-start Inv-loop μ-loop
+part-few-plain-start c = omega arith
 
-part-all-plain-end-2 : tie.Need-part-all-plain-end-2 Inv-loop μ-loop
-part-all-plain-end-2 c = search needs
+part-few-plain-end : tie.Need-part-few-plain-end Inv-loop μ-loop
+part-few-plain-end c = search needs
 
-all-plain-requires-2 : tie.Need-all-plain-requires-2 Inv-loop μ-loop
-all-plain-requires-2 c κs = search needs
+few-plain-requires : tie.Need-few-plain-requires Inv-loop μ-loop
+few-plain-requires c κs = search needs
 
 returns-4 : tie.Need-returns-4 Inv-loop μ-loop
 returns-4 c =
     let l = c .before .before .before .loop in
-    c .all-plain2 .ensures ∙ last-part (now (c .before .before .before .before .before .before .before .before .before .args .name)) (l .i) ∙ l .inv .1
+    c .few-plain .ensures ∙ last-part (now (c .before .before .before .before .before .before .before .before .before .args .name)) (l .i) ∙ l .inv .1
 
 pub is-plain-spec : {M : Type 1} → statement M
 is-plain-spec =
@@ -114,8 +114,8 @@ is-plain-spec =
     add-i
     loop-less
     loop-again
-    sub-all-plain-2
-    part-all-plain-start-2
-    part-all-plain-end-2
-    all-plain-requires-2
+    sub-few-plain
+    part-few-plain-start
+    part-few-plain-end
+    few-plain-requires
     returns-4)
