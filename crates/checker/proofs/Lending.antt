@@ -7,7 +7,8 @@ use native.Mathlib.Omega.{arith}
 use lib.ListN.{replicate, length-replicate}
 use Rattle.rules.specs.Table.{MOST-ROWS, rowCount}
 use Rattle.notes.specs.Notes.{NOTES}
-use Rattle.checker.specs.Lent.{dictionaryWords, Lent}
+use Rattle.row_checks.specs.Arrays.{dictionaryWords}
+use Rattle.checker.specs.Lent.{Lent}
 
 -- Arrays for so many rows are enough where a table of a size that is not refused has no more.
 pub zeros-lent : (table : List ℕ) (most : ℕ) → (rowCount table ≤ MOST-ROWS → rowCount table ≤ most) → Lent table (replicate (dictionaryWords most) 0) (replicate (NOTES * most) 0)

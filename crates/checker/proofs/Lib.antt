@@ -1,3 +1,2 @@
 pub mod Lending
-pub mod Pass
-pub mod Rest
+pub mod Whole

@@ -1,41 +1,14 @@
 -- The arrays that are lent to the check: the dictionary of the names, and the notes of the rows.
-use Prim.Native.Nat.{ℕ, _+_, _*_, _≤_}
+use Prim.Native.Nat.{ℕ, _*_, _≤_}
 use mathlib.Core.Path.{_≡_}
 use mathlib.Core.List.{List}
 use lib.ListN.{length, replicate}
-use Rattle.rules.specs.Table.{MOST-ROWS, MOST-BYTES, rowCount}
+use Rattle.rules.specs.Table.{MOST-ROWS, rowCount}
 use Rattle.notes.specs.Notes.{NOTES}
-use Rattle.numbers.specs.Noted.{Numbered}
-use Rattle.entries.specs.Entries.{NAMES, WIDTH}
-use Rattle.dictionary.specs.Dictionary.{PLACES, lastOf, spelling, Dictionary}
-
--- The rows of a small table.
-abbrev pub FEW-ROWS : ℕ
-FEW-ROWS = 64
-
--- the bytes of a short pool
-abbrev pub FEW-BYTES : ℕ
-FEW-BYTES = 4096
-
--- how many words a dictionary has for the names of so many rows: a row has up to three
-abbrev pub dictionaryWords : ℕ → ℕ
-dictionaryWords rows = PLACES + NAMES + WIDTH * (3 * rows + 1)
+use Rattle.row_checks.specs.Arrays.{dictionaryWords}
 
 -- The dictionary is cleared, and there are words enough. A table that is refused for its size needs none.
 pub record Lent (table dictionary notes : List ℕ) : Type 0 where
   pub cleared : dictionary ≡ replicate (length dictionary) 0
   pub words : rowCount table ≤ MOST-ROWS → dictionaryWords (rowCount table) ≤ length dictionary
   pub records : rowCount table ≤ MOST-ROWS → NOTES * rowCount table ≤ length notes
-
--- The arrays are enough for a table of a size that is not refused.
-pub record Enough (table pool dictionary notes : List ℕ) : Type 0 where
-  pub rows : rowCount table ≤ MOST-ROWS
-  pub bytes : length pool ≤ MOST-BYTES
-  pub words : dictionaryWords (rowCount table) ≤ length dictionary
-  pub records : NOTES * rowCount table ≤ length notes
-
--- The names of all rows have their numbers.
-pub record Named (table pool dictionary notes : List ℕ) : Type 0 where
-  pub right : Dictionary dictionary pool
-  pub few : lastOf dictionary ≤ 3 * rowCount table
-  pub numbered : Numbered table pool notes (spelling dictionary pool) (lastOf dictionary) (rowCount table)

@@ -7,9 +7,7 @@ ghost use Prim.Native.Nat.{ℕ, _+_, _*_, _≤_, _<_};
 ghost use lib.ListN.{length, getD};
 ghost use lib.Dec.{eqb};
 ghost use mathlib.Core.Bool.{_&&_};
-ghost use Rattle.rules.specs.Lists.{sameBytes};
 ghost use Rattle.rules.specs.Table.{MOST-BYTES, part};
-ghost use Rattle.numbers.specs.Numbers.{Names};
 ghost use Rattle.kinds.specs.Kinds.{kindOf};
 ghost use Rattle.entries.specs.Entries.{NAMES, WIDTH, Denotes, Interned, HasRoom, Within};
 ghost use Rattle.dictionary.specs.Dictionary.{SLOTS, PLACES, OFFSET, LENGTH, seen, entriesOf, lastOf, isHard, spelling, Dictionary, remembered};
@@ -19,7 +17,7 @@ use rules::Place;
 // The places seen: offset, length and number of each.
 const SLOTS: usize = 1024;
 
-const PLACES: usize = 3 * SLOTS;
+pub const PLACES: usize = 3 * SLOTS;
 
 const OFFSET: usize = 0;
 
@@ -47,7 +45,7 @@ pub fn number_of(dictionary: &mut [u16], pool: &[u8], place: Place) -> NameId
     if known.0 > 0 {
         return known;
     }
-    let number = entries::intern(&mut dictionary[PLACES..], pool, place);
+    let number = interning::intern(&mut dictionary[PLACES..], pool, place);
     remember(dictionary, slot_of(place), place, number);
     number
 }
@@ -63,35 +61,6 @@ pub fn recall(dictionary: &[u16], place: Place) -> NameId
         return NameId(seen(dictionary, slot, NUMBER));
     }
     NameId(0)
-}
-
-// The number of a name, wherever its bytes stand; if it has none, the number after the last. A name longer than the pool
-// has none, and is not read.
-pub fn number_of_name(dictionary: &[u16], pool: &[u8], name: &[u8]) -> NameId
-    requires { ⌜ Dictionary (now dictionary) (now pool) ⌝ }
-    requires { ⌜ lastOf (now dictionary) < 65535 ⌝ }
-    ensures { λ r. ⌜ r .0 ≤ lastOf (now (dictionary .entry)) + 1 ⌝ }
-    ensures { λ r. ⌜ ((n : ℕ) (bytes : List ℕ) → Names (spelling (now (dictionary .entry)) (now (pool .entry))) (lastOf (now (dictionary .entry))) n bytes → eqb n (r .0) ≡ sameBytes bytes (now (name .entry))) ⌝ }
-{
-    if name.len() == 0 {
-        return NameId(0);
-    }
-    if name.len() > pool.len() {
-        return unused(dictionary);
-    }
-    let found = entries::number_of(&dictionary[PLACES..], pool, name);
-    if found.0 > 0 {
-        return found;
-    }
-    unused(dictionary)
-}
-
-// The number after the last, which no name has.
-fn unused(dictionary: &[u16]) -> NameId
-    requires { ⌜ (PLACES + NAMES ≤ length (now dictionary)) × (lastOf (now dictionary) < 65535) ⌝ }
-    ensures { λ r. ⌜ r .0 ≡ lastOf (now (dictionary .entry)) + 1 ⌝ }
-{
-    NameId(last(dictionary).0 + 1)
 }
 
 // The last number given.
@@ -117,9 +86,9 @@ pub fn harden(dictionary: &mut [u16], table: &[u32], pool: &[u8])
     ensures { λ _. ⌜ Dictionary (now (dictionary .exit)) (now (pool .entry)) ⌝ }
     ensures { λ _. ⌜ lastOf (now (dictionary .exit)) ≤ 0 ⌝ }
 {
-    let key = keyed::seed::key_of(table, pool);
+    let key = hash_keys::key_of(table, pool);
     clear(dictionary);
-    entries::key(&mut dictionary[PLACES..], pool, key);
+    interning::key(&mut dictionary[PLACES..], pool, key);
 }
 
 fn clear(words: &mut [u16])

@@ -16,9 +16,9 @@ use Rattle.rules.proofs.Table.{node-nodes}
 use Rattle.rules.proofs.Refusals.{not-refused, all-none, verdict-accepted, verdict-refused, first-alone, first-append}
 use Rattle.rules.proofs.Accepted.{structure-falls}
 use Rattle.notes.specs.Notes.{NOTES, LATEST, noteAt}
-use Rattle.row_names.specs.RowNames.{namesRefusal}
+use Rattle.name_refusals.specs.NameRefusals.{namesRefusal}
 use Rattle.numbering.specs.Numbering.{RowNumbered}
-use Rattle.tree.specs.Children.{ParentBefore}
+use Rattle.tree.specs.Earlier.{ParentBefore}
 use Rattle.faults.specs.Faults.{placeRefusal, faultRefusal}
 
 -- What is refused is not accepted.

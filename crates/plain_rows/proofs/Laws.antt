@@ -27,7 +27,8 @@ use Rattle.tree.proofs.Parents.{structure-elsewhere}
 use Rattle.fields.specs.Passes.{placeRefusalAt, isNothing}
 use Rattle.fields.proofs.Fitting.{nothing-place, fits-inside, plain-text, plain-attribute, plain-element}
 use Rattle.value_bytes.proofs.Values.{ascii-formed}
-use Rattle.row_names.proofs.Good.{good-passed, good-text, good-named}
+use Rattle.row_names.proofs.Good.{good-text, good-named}
+use Rattle.name_refusals.proofs.Drawn.{good-passed}
 use Rattle.numbering.proofs.Numbering.{kinds-named, kinds-none}
 use Rattle.faults.specs.Faults.{faultRefusal}
 use Rattle.faults.proofs.Laws.{place-fields, drawn-names}

@@ -2,31 +2,18 @@
 -- Assumes nothing.
 use Prim.Native.Nat.{ℕ, _≤_}
 use mathlib.Core.Path.{_≡_, refl, sym, _∙_}
-use mathlib.Core.Bool.{Bool, true, false, _&&_, not, and-false}
+use mathlib.Core.Bool.{true, false, _&&_, not, and-false}
 use mathlib.Core.List.{List}
 use native.Mathlib.Omega.{arith}
 use borrow.Author.Tests.{eqb-true, ne-eqb, leb-true, le-leb}
 use lib.Dec.{eqb, leb}
-use Rattle.rules.specs.Table.{VALUE, ELEMENT, ATTRIBUTE, TEXT, Node}
+use Rattle.rules.specs.Table.{ELEMENT, ATTRIBUTE, TEXT, Node}
 use Rattle.rules.specs.Utf8.{wellFormed}
-use Rattle.rules.specs.Refusals.{verdict}
-use Rattle.rules.specs.declared.Refusal.{Refusal}
-use Rattle.rules.specs.declared.Checked.{Checked}
 use Rattle.rules.proofs.Lists.{both-true, true-both}
 use Rattle.kinds.specs.Kinds.{EMPTY, GOOD, OTHER, kindOf}
 use Rattle.row_names.specs.declared.Kinds.{Kinds}
-use Rattle.row_names.specs.RowNames.{kindsOf, namesRefusal, GoodNames}
-use Rattle.row_names.proofs.Tests.{is-well-formed, encoding-value, encoding-passed, kind-prefix, kind-local, kind-uri, names-good, namespace-other, namespace-good, refused-encoding, passed-encoding, refused-none}
-
--- Of a row of good names only the value can draw a refusal.
-module _ (r : ℕ) (n : Node) (g : GoodNames n) {bad : Bool} (b : bad ≡ not (wellFormed (n .value .bytes))) where
-  pub good-refused : bad ≡ true → Checked.Refused (Refusal.MalformedUtf8 (record { 0 = r }) VALUE) ≡ verdict (namesRefusal r n)
-  good-refused e = refused-encoding r n (encoding-value r n (g .prefix) (g .local) (g .uri) b e) _ refl
-
-  pub good-passed : bad ≡ false → Checked.Accepted ≡ verdict (namesRefusal r n)
-  good-passed e =
-      let d = encoding-passed r n (g .prefix) (g .local) (g .uri) b e in
-      refused-none r n d refl (g .names r (passed-encoding r n d refl)) (g .namespace)
+use Rattle.row_names.specs.RowNames.{kindsOf, GoodNames}
+use Rattle.row_names.proofs.Tests.{is-well-formed, kind-prefix, kind-local, kind-uri, names-good, namespace-other, namespace-good}
 
 module _ (n : Node) {kind : ℕ} (t : kind ≡ n .type) {kinds : Kinds} (k : kinds ≡ kindsOf n) where
   -- A kind below the last is that of a well-formed name.

@@ -1,4 +1,4 @@
--- Refusals 14 and 4 to 6 of one row, as the code tests them by the kinds of its names.
+-- Refusals 4 to 6 of one row, as the code tests them by the kinds of its names.
 -- Assumes nothing.
 use Prim.Native.Nat.{ℕ}
 use mathlib.Core.Path.{_≡_, refl, sym, ap, _∙_}
@@ -8,18 +8,15 @@ use mathlib.Core.Option.{none}
 use native.Mathlib.Omega.{arith}
 use borrow.Author.Tests.{eqb-true, eqb-false, eq-eqb, ne-eqb, leb-true, le-leb}
 use lib.Dec.{eqb, leb}
-use Rattle.rules.specs.Table.{PREFIX, LOCAL-NAME, URI, VALUE, ELEMENT, ATTRIBUTE, DECLARATION, Node, isLevel1}
+use Rattle.rules.specs.Table.{ELEMENT, ATTRIBUTE, DECLARATION, Node, isLevel1}
 use Rattle.rules.specs.Utf8.{wellFormed}
-use Rattle.rules.specs.Refusals.{goodName, verdict, encodingsRefusal, badNames, badNamespace, badDeclaration}
-use Rattle.rules.specs.declared.Refusal.{Refusal}
-use Rattle.rules.specs.declared.Checked.{Checked}
+use Rattle.rules.specs.Refusals.{goodName, encodingsRefusal, badNames, badNamespace, badDeclaration}
 use Rattle.rules.proofs.Lists.{by-cases, both-true, either-left}
 use Rattle.rules.proofs.Accepted.{fields-encoded}
-use Rattle.rules.proofs.Refusals.{verdict-accepted, verdict-refused}
 use Rattle.kinds.specs.Kinds.{EMPTY, GOOD, XML, XMLNS, GOOD-WITH-COLONS, OTHER, XML-URI, XMLNS-URI, MALFORMED, kindOf}
 use Rattle.kinds.proofs.NameKinds.{kind-empty, kind-xml, kind-xmlns, kind-xml-uri, kind-xmlns-uri, kind-malformed, kind-good, kind-good-with-colons}
 use Rattle.row_names.specs.declared.Kinds.{Kinds}
-use Rattle.row_names.specs.RowNames.{kindsOf, namesRefusal}
+use Rattle.row_names.specs.RowNames.{kindsOf}
 
 -- 14, of one name
 module _ (name : List ℕ) {kind : ℕ} (k : kind ≡ kindOf name) where
@@ -28,31 +25,6 @@ module _ (name : List ℕ) {kind : ℕ} (k : kind ≡ kindOf name) where
 
   pub is-well-formed : (kind ≡ MALFORMED → ⊥) → wellFormed name ≡ true
   is-well-formed e = kind-malformed name ∙ ap not (ne-eqb (kindOf name) MALFORMED (λ m. e (k ∙ m)))
-
--- 14, of the fields in word order
-module _ (r : ℕ) (n : Node) where
-  pub encoding-prefix : wellFormed (n .prefix .bytes) ≡ false → Checked.Refused (Refusal.MalformedUtf8 (record { 0 = r }) PREFIX) ≡ verdict (encodingsRefusal r n)
-  unfolding encodingsRefusal
-  encoding-prefix e = rw e
-
-  module _ (p : wellFormed (n .prefix .bytes) ≡ true) where
-    pub encoding-local : wellFormed (n .local .bytes) ≡ false → Checked.Refused (Refusal.MalformedUtf8 (record { 0 = r }) LOCAL-NAME) ≡ verdict (encodingsRefusal r n)
-    unfolding encodingsRefusal
-    encoding-local e = rw (p, e)
-
-    module _ (l : wellFormed (n .local .bytes) ≡ true) where
-      pub encoding-uri : wellFormed (n .uri .bytes) ≡ false → Checked.Refused (Refusal.MalformedUtf8 (record { 0 = r }) URI) ≡ verdict (encodingsRefusal r n)
-      unfolding encodingsRefusal
-      encoding-uri e = rw (p, l, e)
-
-      module _ (u : wellFormed (n .uri .bytes) ≡ true) {bad : Bool} (b : bad ≡ not (wellFormed (n .value .bytes))) where
-        pub encoding-value : bad ≡ true → Checked.Refused (Refusal.MalformedUtf8 (record { 0 = r }) VALUE) ≡ verdict (encodingsRefusal r n)
-        unfolding encodingsRefusal
-        encoding-value e = rw (p, l, u, ← b, e)
-
-        pub encoding-passed : bad ≡ false → Checked.Accepted ≡ verdict (encodingsRefusal r n)
-        unfolding encodingsRefusal
-        encoding-passed e = rw (p, l, u, ← b, e)
 
 -- A kind of a row's names.
 module _ (n : Node) {kinds : Kinds} (k : kinds ≡ kindsOf n) where
@@ -152,22 +124,3 @@ pub declaration-tested :
 unfolding badDeclaration
 declaration-tested n d l v =
     rw (eq-eqb (n .type) DECLARATION d, v, l, kind-empty (n .local .bytes), kind-empty (n .value .bytes), kind-xml (n .local .bytes), kind-xmlns (n .local .bytes), kind-xml-uri (n .value .bytes), kind-xmlns-uri (n .value .bytes))
-
--- What a row draws for its names, one after the other.
-module _ (r : ℕ) (n : Node) {drawn : Checked} (d : drawn ≡ verdict (encodingsRefusal r n)) where
-  pub refused-encoding : (x : Refusal) → drawn ≡ Checked.Refused x → drawn ≡ verdict (namesRefusal r n)
-  refused-encoding x e = let u = verdict-refused (encodingsRefusal r n) x (sym d ∙ e) in rw u e
-
-  module _ (a : drawn ≡ Checked.Accepted) where
-    pub passed-encoding : encodingsRefusal r n ≡ none
-    passed-encoding = verdict-accepted (encodingsRefusal r n) (sym d ∙ a)
-
-    pub refused-names : badNames n ≡ true → Checked.Refused (Refusal.Names (record { 0 = r })) ≡ verdict (namesRefusal r n)
-    refused-names b = rw (passed-encoding, b)
-
-    module _ (b : badNames n ≡ false) where
-      pub refused-namespace : badNamespace n ≡ true → Checked.Refused (Refusal.Namespace (record { 0 = r })) ≡ verdict (namesRefusal r n)
-      refused-namespace s = rw (passed-encoding, b, s)
-
-      pub refused-none : badNamespace n ≡ false → Checked.Accepted ≡ verdict (namesRefusal r n)
-      refused-none s = rw (passed-encoding, b, s)

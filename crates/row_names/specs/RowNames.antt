@@ -1,13 +1,11 @@
--- The names of a row: what they are, and what it is refused for them.
+-- The names of a row: what they are, and that they draw no refusal.
 use Prim.Native.Nat.{ℕ}
 use mathlib.Core.Path.{_≡_}
-use mathlib.Core.List.{[], _∷_}
 use mathlib.Core.Bool.{true, false}
-use mathlib.Core.Option.{Option, none}
+use mathlib.Core.Option.{none}
 use Rattle.rules.specs.Table.{Node}
 use Rattle.rules.specs.Utf8.{wellFormed}
-use Rattle.rules.specs.Refusals.{refusedIf, firstRefusal, encodingsRefusal, badNames, badNamespace}
-use Rattle.rules.specs.declared.Refusal.{Refusal}
+use Rattle.rules.specs.Refusals.{encodingsRefusal, badNames, badNamespace}
 use Rattle.numbers.specs.Noted.{declaredUri}
 use Rattle.kinds.specs.Kinds.{kindOf}
 use Rattle.row_names.specs.declared.Kinds.{Kinds}
@@ -21,15 +19,6 @@ kindsOf n =
       uri = kindOf (n .uri .bytes);
       value = kindOf (declaredUri n);
     }
-
--- what row r is refused for its names: 14, 4, 5
-abbrev pub namesRefusal : ℕ → Node → Option Refusal
-namesRefusal r n =
-    firstRefusal
-    (encodingsRefusal r n
-    ∷ refusedIf (badNames n) (Refusal.Names (record { 0 = r }))
-    ∷ refusedIf (badNamespace n) (Refusal.Namespace (record { 0 = r }))
-    ∷ [])
 
 -- The names of a row draw none of 14, 4 and 5.
 pub record GoodNames (n : Node) : Type 0 where

@@ -1,20 +1,9 @@
-// The names of one row: what the row draws for them, refusals 14, 4 and 5, and a declaration 6, by what
-// each name is, so that no byte of it is read again.
-ghost use mathlib.Core.Path.{_≡_};
-ghost use Prim.Native.Nat.{_<_};
-ghost use Rattle.rules.specs.Table.{VALUE, rowCount, fieldAt, nodeAt};
-ghost use Rattle.rules.specs.Utf8.{wellFormed};
-ghost use Rattle.rules.specs.Refusals.{verdict};
-ghost use Rattle.row_names.specs.RowNames.{kindsOf, namesRefusal};
-use rules::Checked;
-use rules::Refusal;
-use rules::Row;
-
+// The names of one row, by what each is, so that no byte of it is read again: whether the row draws refusal 4 or 5 for
+// them, and a declaration 6.
 pub mod declaration;
-mod encoding;
-mod name;
-mod namespace;
-mod plain;
+pub mod name;
+pub mod namespace;
+pub mod plain;
 
 // What the names of a row are; the value's kind is that of a declaration's URI.
 pub struct Kinds {
@@ -22,42 +11,4 @@ pub struct Kinds {
     pub local: u16,
     pub uri: u16,
     pub value: u16,
-}
-
-// The first of 14, 4 and 5 that the row draws for its names, which are of these kinds, and its value, of which it is
-// known whether it is well-formed.
-pub fn check(table: &[u32], pool: &[u8], formed: bool, kinds: Kinds, row: Row) -> Checked
-    requires { ⌜ row .0 < rowCount (now table) ⌝ }
-    requires { ⌜ formed ≡ wellFormed (fieldAt (now table) (now pool) (row .0) VALUE .bytes) ⌝ }
-    requires { ⌜ kinds ≡ kindsOf (nodeAt (now table) (now pool) (row .0)) ⌝ }
-    ensures { λ r. ⌜ r ≡ verdict (namesRefusal (row .0) (nodeAt (now (table .entry)) (now (pool .entry)) (row .0))) ⌝ }
-{
-    if plain::is_plain(rows::kind(table, row), kinds) {
-        if !formed {
-            return encoding::malformed(row, rules::VALUE);
-        }
-        return Checked::Accepted;
-    }
-    check_each(table, pool, formed, kinds, row)
-}
-
-// The tests one after the other.
-fn check_each(table: &[u32], pool: &[u8], formed: bool, kinds: Kinds, row: Row) -> Checked
-    requires { ⌜ row .0 < rowCount (now table) ⌝ }
-    requires { ⌜ formed ≡ wellFormed (fieldAt (now table) (now pool) (row .0) VALUE .bytes) ⌝ }
-    requires { ⌜ kinds ≡ kindsOf (nodeAt (now table) (now pool) (row .0)) ⌝ }
-    ensures { λ r. ⌜ r ≡ verdict (namesRefusal (row .0) (nodeAt (now (table .entry)) (now (pool .entry)) (row .0))) ⌝ }
-{
-    let row_type = rows::kind(table, row);
-    let drawn = encoding::check(table, pool, formed, kinds, row);
-    let Checked::Accepted = drawn else {
-        return drawn;
-    };
-    if name::bad(row_type, kinds) {
-        return Checked::Refused(Refusal::Names(row));
-    }
-    if namespace::bad(row_type, kinds) {
-        return Checked::Refused(Refusal::Namespace(row));
-    }
-    Checked::Accepted
 }

@@ -80,14 +80,6 @@ pub fn is_level1(kind: u32) -> bool
     (kind == rules::LEVEL1_ELEMENT) | (kind == rules::LEVEL1_ATTRIBUTE)
 }
 
-// The row that is linked to a row.
-pub fn linked(links: &[u32], row: Row) -> Row
-    requires { ⌜ row .0 < length (now links) ⌝ }
-    ensures { λ r. ⌜ r .0 ≡ getD (now (links .entry)) (row .0) 0 ⌝ }
-{
-    row_at(links, wide(row.0))
-}
-
 // The row that stands at a position of a list of rows.
 pub fn row_at(rows: &[u32], at: usize) -> Row
     requires { ⌜ at < length (now rows) ⌝ }

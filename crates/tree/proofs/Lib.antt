@@ -1,4 +1,3 @@
 pub mod Allowed
-pub mod Before
-pub mod Children
+pub mod Earlier
 pub mod Parents

@@ -2,20 +2,19 @@
 -- Assumes nothing.
 use Prim.Native.Nat.{ℕ, _≤_, _<_}
 use mathlib.Core.Path.{_≡_, refl, sym, ap, _∙_}
-use mathlib.Core.Bool.{Bool, true, false, _&&_, _||_, not, and-true, and-false, or-false}
+use mathlib.Core.Bool.{Bool, true, false, _||_, not, and-false, or-false}
 use mathlib.Core.List.{List}
 use mathlib.Core.Option.{Option, none, some}
 use native.Mathlib.Omega.{arith}
 use borrow.Author.Tests.{eq-eqb, ne-eqb, lt-ltb, le-ltb}
-use lib.Dec.{ltb}
-use lib.ListN.{getD, List·getD-eq-default}
+use lib.ListN.{List·getD-eq-default}
 use Rattle.rules.specs.Table.{MOST-ROWS, NONE, TYPE, PARENT, DOCUMENT, Node, noNode, word, nodes, node, rowCount, isElement, ParentRule}
 use Rattle.rules.specs.Refusals.{parentRule, parentAllowed, secondElement, badStructure}
 use Rattle.rules.proofs.Table.{length-nodes, node-nodes}
 use Rattle.tree.specs.Parents.{NOTHING, lineOf, ruleAllows}
-use Rattle.tree.specs.Children.{under, Latest}
+use Rattle.tree.specs.Earlier.{anyBefore, under}
 use Rattle.tree.proofs.Allowed.{allowed-under}
-use Rattle.tree.proofs.Before.{last-any, any-take}
+use Rattle.tree.proofs.Earlier.{any-take}
 
 module _ (ns : List Node) (r parent : ℕ) where
   alone : parent ≡ NONE → (o : Option ParentRule) → ruleAllows o NOTHING ≡ parentAllowed ns r parent o
@@ -63,11 +62,14 @@ module _ (table pool : List ℕ) (r : ℕ) (h : r < rowCount table) {kind parent
       unfolding secondElement
       second-elsewhere d = rw (node-nodes table pool r h, ← p, ← there, ne-eqb above DOCUMENT d, and-false)
 
-      second-under : above ≡ DOCUMENT → (children : List ℕ) → Latest isElement table children r → {child : ℕ} → child ≡ getD children parent 0 → {e : Bool} → e ≡ isElement kind → (e && ltb child r) ≡ secondElement (nodes table pool) r
+      second-other : isElement kind ≡ false → false ≡ secondElement (nodes table pool) r
+      unfolding secondElement
+      second-other g = rw (node-nodes table pool r h, ← k, g)
+
+      second-under : above ≡ DOCUMENT → isElement kind ≡ true → anyBefore (under table parent) r ≡ secondElement (nodes table pool) r
       unfolding secondElement under
-      second-under q children c d g =
-          let few : r ≤ NONE = (let f : rowCount table ≤ MOST-ROWS = c .few in omega arith) in
-          rw (node-nodes table pool r h, ← k, ← p, ← there, any-take _ table pool r (omega arith), eq-eqb above DOCUMENT q, and-true, g, d, c .holds parent (omega arith) (sym t ∙ q), last-any (under isElement table parent) r few r (omega arith))
+      second-under q g =
+          rw (node-nodes table pool r h, ← k, ← p, ← there, any-take _ table pool r (omega arith), eq-eqb above DOCUMENT q, g)
 
       allowed : {a : Bool} → a ≡ ruleAllows (parentRule kind) (lineOf above) → a ≡ parentAllowed (nodes table pool) r parent (parentRule kind)
       allowed f =
@@ -85,6 +87,8 @@ module _ (table pool : List ℕ) (r : ℕ) (h : r < rowCount table) {kind parent
           pub structure-elsewhere : (above ≡ DOCUMENT → ⊥) → false ≡ badStructure (nodes table pool) r
           structure-elsewhere d = structure (sym e ∙ allowed f) (second-elsewhere d)
 
-          pub structure-second : above ≡ DOCUMENT → (children : List ℕ) → Latest isElement table children r → {child : ℕ} → child ≡ getD children parent 0
-              → {element : Bool} → element ≡ isElement kind → (element && ltb child r) ≡ badStructure (nodes table pool) r
-          structure-second d children c i g = structure (sym e ∙ allowed f) (second-under d children c i g)
+          pub structure-other : isElement kind ≡ false → false ≡ badStructure (nodes table pool) r
+          structure-other g = structure (sym e ∙ allowed f) (second-other g)
+
+          pub structure-second : above ≡ DOCUMENT → isElement kind ≡ true → {found : Bool} → found ≡ anyBefore (under table parent) r → found ≡ badStructure (nodes table pool) r
+          structure-second d g i = structure (sym e ∙ allowed f) (i ∙ second-under d g)

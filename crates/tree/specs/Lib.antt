@@ -1,2 +1,2 @@
 pub mod Parents
-pub mod Children
+pub mod Earlier

@@ -1,11 +1,11 @@
 // Refusal 2: an unknown type, a parent that is not allowed, or a document's second element.
 ghost use mathlib.Core.Path.{_≡_};
 ghost use mathlib.Core.List.{List};
-ghost use Prim.Native.Nat.{ℕ, _+_, _≤_, _<_};
-ghost use Rattle.rules.specs.Table.{rowCount, nodes, isElement};
+ghost use Prim.Native.Nat.{ℕ, _≤_, _<_};
+ghost use Rattle.rules.specs.Table.{MOST-ROWS, rowCount, nodes};
 ghost use Rattle.rules.specs.Refusals.{parentRule, badStructure};
 ghost use Rattle.tree.specs.Parents.{NOTHING, lineOf, ruleAllows, Right};
-ghost use Rattle.tree.specs.Children.{Latest, ParentBefore};
+ghost use Rattle.tree.specs.Earlier.{anyBefore, under};
 use rows::wide;
 use rules::Row;
 
@@ -53,10 +53,9 @@ pub fn allowed_parents() -> [u16; 14]
 
 // The row draws the refusal. The table is asked of every row; under a parent that comes before the
 // documents in it, as most are, it alone decides.
-pub fn bad(table: &[u32], allowed: &[u16], children: &[u32], row: Row) -> bool
-    requires { ⌜ row .0 < rowCount (now table) ⌝ }
+pub fn bad(table: &[u32], allowed: &[u16], row: Row) -> bool
+    requires { ⌜ (row .0 < rowCount (now table)) × (rowCount (now table) ≤ MOST-ROWS) ⌝ }
     requires { ⌜ Right (now allowed) ⌝ }
-    requires { ⌜ Latest isElement (now table) (now children) (row .0) ⌝ }
     ensures { λ r. ⌜ ((pool : List ℕ) → r ≡ badStructure (nodes (now (table .entry)) pool) (row .0)) ⌝ }
 {
     let kind = rows::kind(table, row);
@@ -77,23 +76,36 @@ pub fn bad(table: &[u32], allowed: &[u16], children: &[u32], row: Row) -> bool
     if above != rules::DOCUMENT {
         return false;
     }
-    let child = rows::linked(children, parent);
-    rows::is_element(kind) & (child.0 < row.0)
+    if !rows::is_element(kind) {
+        return false;
+    }
+    has_element(table, parent, row)
 }
 
-// Enters the row, if it is an element, as the latest under its parent.
-pub fn add(table: &[u32], children: &mut [u32], row: Row)
-    requires { ⌜ row .0 < rowCount (now table) ⌝ }
-    requires { ⌜ ParentBefore (now table) (row .0) ⌝ }
-    requires { ⌜ Latest isElement (now table) (now children) (row .0) ⌝ }
-    ensures { λ _. ⌜ Latest isElement (now (table .entry)) (now (children .exit)) (row .0 + 1) ⌝ }
+// A row before this one is an element under the parent. At most one element of each document asks.
+fn has_element(table: &[u32], parent: Row, row: Row) -> bool
+    requires { ⌜ row .0 ≤ rowCount (now table) ⌝ }
+    ensures { λ r. ⌜ r ≡ anyBefore (under (now (table .entry)) (parent .0)) (row .0) ⌝ }
 {
-    let parent = rows::parent(table, row);
-    if rows::is_element(rows::kind(table, row)) {
-        if parent.0 < row.0 {
-            children[wide(parent.0)] = row.0;
+    let above = parent.0;
+    let first = row.0;
+    let mut r = first;
+    while r > 0 {
+        r -= 1;
+        if is_element_under(table, Row(above), Row(r)) {
+            return true;
         }
     }
+    false
+}
+
+// The row is an element under the parent.
+fn is_element_under(table: &[u32], parent: Row, row: Row) -> bool
+    requires { ⌜ row .0 < rowCount (now table) ⌝ }
+    ensures { λ r. ⌜ r ≡ under (now (table .entry)) (parent .0) (row .0) ⌝ }
+{
+    let above = rows::parent(table, row);
+    rows::is_element(rows::kind(table, row)) & (above.0 == parent.0)
 }
 
 // A row of this type may stand under a row of the line above, or under nothing.

@@ -2,7 +2,7 @@
 -- Assumes nothing.
 use mathlib.Core.Path.{refl}
 use native.Mathlib.Omega.{arith}
-use Rattle.checker.proofs.Pass.{still-enough}
+use Rattle.checker.proofs.Whole.{still-enough}
 use borrow.Author.Needs.{needs}
 use Rattle.checker.proofs.check_hard.Statement.{statement}
 use Rattle.checker.proofs.check_hard.Tie as tie

@@ -3,8 +3,8 @@
 use mathlib.Core.Path.{refl, sym, _∙_}
 use denote.Ref.{now}
 use Rattle.rules.proofs.Accepted.{sized, few-rows}
-use Rattle.checker.specs.Lent.{Enough}
-use Rattle.checker.proofs.Pass.{check-size, check-all, enough, lent-empty}
+use Rattle.row_checks.specs.Arrays.{Enough}
+use Rattle.checker.proofs.Whole.{check-size, check-all, enough, lent-empty}
 use Rattle.faults.proofs.Laws.{not-accepted}
 use Rattle.value_bytes.proofs.Values.{zeros-marked}
 use native.Mathlib.Omega.{arith}
@@ -12,21 +12,21 @@ use borrow.Author.Needs.{needs}
 use Rattle.checker.proofs.check_numbered.Statement.{statement}
 use Rattle.checker.proofs.check_numbered.Tie as tie
 
-bad-size-requires : tie.Need-bad-size-requires
-bad-size-requires c κs = search needs
+is-bad-requires : tie.Need-is-bad-requires
+is-bad-requires c κs = search needs
 
 returns : tie.Need-returns
 returns c =
     let b = c .before in
     let s = b .before .before .before .before .before in
-    (check-size (now (s .args .table)) (now (s .args .pool)) (sym (b .bad-size .ensures) ∙ c .if1 .taken), (not-accepted _ refl, λ q k l h. refl))
+    (check-size (now (s .args .table)) (now (s .args .pool)) (sym (b .is-bad .ensures) ∙ c .if1 .taken), (not-accepted _ refl, λ q k l h. refl))
 
 -- The size is not refused, and the arrays are enough.
 arrays : (i : tie.Else1) → let s = i .before .before .before .before .before .before in Enough (now (s .args .table)) (now (s .args .pool)) (now (s .args .dictionary)) (now (s .args .notes))
 arrays i =
     let b = i .before in
     let s = b .before .before .before .before .before in
-    let z = sized (now (s .args .table)) (now (s .args .pool)) (sym (b .bad-size .ensures) ∙ i .if1 .left) in
+    let z = sized (now (s .args .table)) (now (s .args .pool)) (sym (b .is-bad .ensures) ∙ i .if1 .left) in
     enough (now (s .args .table)) (now (s .args .pool)) (now (s .args .dictionary)) (now (s .args .notes)) (few-rows (now (s .args .table)) (now (s .args .pool)) z) (z .poolBound) (s .pre)
 
 is-ascii-requires : tie.Need-is-ascii-requires
@@ -64,14 +64,14 @@ returns-2 c =
     let i = c .before .before .before .before .before .before .before .before .before .before .before .before in
     let b = i .before in
     let s = b .before .before .before .before .before in
-    let all = check-all (now (s .args .table)) (now (s .args .pool)) (sym (b .bad-size .ensures) ∙ i .if1 .left) in
+    let all = check-all (now (s .args .table)) (now (s .args .pool)) (sym (b .is-bad .ensures) ∙ i .if1 .left) in
     (h .ensures .0 ∙ all, (h .ensures .1 .0, h .ensures .1 .1))
 
 pub check-numbered-spec : {M : Type 1} → statement M
 check-numbered-spec =
     tie.close
     (tie.spec
-    bad-size-requires
+    is-bad-requires
     returns
     is-ascii-requires
     slice-aggregate-mark

@@ -1,7 +1,7 @@
 -- `checker::check_sized` meets its contract.
 -- Assumes nothing.
 use mathlib.Core.Path.{sym, _∙_}
-use Rattle.checker.proofs.Pass.{still-enough, has-flag}
+use Rattle.checker.proofs.Whole.{still-enough, has-flag}
 use borrow.Author.Needs.{needs}
 use Rattle.checker.proofs.check_sized.Statement.{statement}
 use Rattle.checker.proofs.check_sized.Tie as tie

@@ -11,7 +11,7 @@ use Rattle.rules.specs.Refusals.{parentRule}
 use Rattle.rules.proofs.Lists.{both-true}
 use Rattle.tree.specs.Parents.{ruleAllows}
 use Rattle.tree.proofs.Allowed.{line-low, line-bound}
-use Rattle.tree.proofs.Parents.{structure-alone, structure-late, structure-told, structure-refused, structure-elsewhere, structure-second}
+use Rattle.tree.proofs.Parents.{structure-alone, structure-late, structure-told, structure-refused, structure-elsewhere, structure-other, structure-second}
 use borrow.Author.Needs.{needs}
 use Rattle.tree.proofs.structure.bad.Statement.{statement}
 use Rattle.tree.proofs.structure.bad.Tie as tie
@@ -30,16 +30,16 @@ returns c =
     let i = c .before in
     let p = i .before .before in
     let k = p .before in
-    let s = k .before .before .before .before in
-    λ pool. structure-alone (now (s .args .table)) pool (s .args .row .0) (s .pre .0) (k .kind .ensures) (p .parent .ensures) (s .pre .1 .1 .few) (i .if1 .taken) (c .allows .ensures)
+    let s = k .before .before .before in
+    λ pool. structure-alone (now (s .args .table)) pool (s .args .row .0) (s .pre .0 .0) (k .kind .ensures) (p .parent .ensures) (s .pre .0 .1) (i .if1 .taken) (c .allows .ensures)
 
 returns-2 : tie.Need-returns-2
 returns-2 c =
     let i = c .before .before .before in
     let p = i .before .before in
     let k = p .before in
-    let s = k .before .before .before .before in
-    λ pool. structure-late (now (s .args .table)) pool (s .args .row .0) (s .pre .0) (k .kind .ensures) (p .parent .ensures) (i .if1 .left) (omega arith)
+    let s = k .before .before .before in
+    λ pool. structure-late (now (s .args .table)) pool (s .args .row .0) (s .pre .0 .0) (k .kind .ensures) (p .parent .ensures) (i .if1 .left) (omega arith)
 
 kind-requires-2 : tie.Need-kind-requires-2
 kind-requires-2 c κs = search needs
@@ -54,8 +54,8 @@ low c =
 
 has-bit-requires : tie.Need-has-bit-requires
 has-bit-requires c κs =
-    let s = c .before .before .before .before .before .before .before .before .before .before .before .before in
-    (s .pre .1 .0, (omega (arith, low c .0), omega (arith, low c .1)))
+    let s = c .before .before .before .before .before .before .before .before .before .before .before in
+    (s .pre .1, (omega (arith, low c .0), omega (arith, low c .1)))
 
 returns-3 : tie.Need-returns-3
 returns-3 c =
@@ -64,10 +64,10 @@ returns-3 c =
     let i = t .before .before .before .before in
     let p = i .before .before in
     let k = p .before in
-    let s = k .before .before .before .before in
+    let s = k .before .before .before in
     let above = t .kind2 .result in
     λ pool.
-    structure-told (now (s .args .table)) pool (s .args .row .0) (s .pre .0) (k .kind .ensures) (p .parent .ensures) (i .if1 .left) (omega arith) (t .kind2 .ensures)
+    structure-told (now (s .args .table)) pool (s .args .row .0) (s .pre .0 .0) (k .kind .ensures) (p .parent .ensures) (i .if1 .left) (omega arith) (t .kind2 .ensures)
     (c .has-bit .ensures ∙ ap (ruleAllows (parentRule (k .kind .result))) (sym (line-low above (omega (arith, low j .1))))) (λ e. omega (arith, low j .1))
 
 line-requires : tie.Need-line-requires
@@ -76,8 +76,8 @@ line-requires c κs = search needs
 allows-requires-2 : tie.Need-allows-requires-2
 allows-requires-2 c κs =
     let t = c .before .before in
-    let s = t .before .before .before .before .before .before .before .before .before .before .before in
-    (s .pre .1 .0, omega (arith, c .line .ensures, line-bound (t .kind2 .result)))
+    let s = t .before .before .before .before .before .before .before .before .before .before in
+    (s .pre .1, omega (arith, c .line .ensures, line-bound (t .kind2 .result)))
 
 returns-4 : tie.Need-returns-4
 returns-4 c =
@@ -87,9 +87,9 @@ returns-4 c =
     let i = t .before .before .before .before in
     let p = i .before .before in
     let k = p .before in
-    let s = k .before .before .before .before in
+    let s = k .before .before .before in
     λ pool.
-    structure-refused (now (s .args .table)) pool (s .args .row .0) (s .pre .0) (k .kind .ensures) (p .parent .ensures) (i .if1 .left) (omega arith) (t .kind2 .ensures)
+    structure-refused (now (s .args .table)) pool (s .args .row .0) (s .pre .0 .0) (k .kind .ensures) (p .parent .ensures) (i .if1 .left) (omega arith) (t .kind2 .ensures)
     (a .allows2 .ensures ∙ ap (ruleAllows (parentRule (k .kind .result))) (l .line .ensures)) (not-true (a .allows2 .result) (c .if4 .taken))
 
 returns-5 : tie.Need-returns-5
@@ -101,33 +101,49 @@ returns-5 c =
     let i = t .before .before .before .before in
     let p = i .before .before in
     let k = p .before in
-    let s = k .before .before .before .before in
+    let s = k .before .before .before in
     λ pool.
-    structure-elsewhere (now (s .args .table)) pool (s .args .row .0) (s .pre .0) (k .kind .ensures) (p .parent .ensures) (i .if1 .left) (omega arith) (t .kind2 .ensures)
+    structure-elsewhere (now (s .args .table)) pool (s .args .row .0) (s .pre .0 .0) (k .kind .ensures) (p .parent .ensures) (i .if1 .left) (omega arith) (t .kind2 .ensures)
     (a .allows2 .ensures ∙ ap (ruleAllows (parentRule (k .kind .result))) (l .line .ensures)) (not-false (a .allows2 .result) (e .if4 .left)) (c .if5 .taken)
-
-linked-requires : tie.Need-linked-requires
-linked-requires c κs = search needs
 
 is-element-requires : tie.Need-is-element-requires
 is-element-requires c κs = search needs
 
 returns-6 : tie.Need-returns-6
 returns-6 c =
-    let g = c .before .before in
-    let d = g .before in
-    let e = d .before .before in
+    let g = c .before in
+    let e = g .before .before in
     let a = e .before in
     let l = a .before in
     let t = l .before .before in
     let i = t .before .before .before .before in
     let p = i .before .before in
     let k = p .before in
-    let s = k .before .before .before .before in
+    let s = k .before .before .before in
     λ pool.
-    structure-second (now (s .args .table)) pool (s .args .row .0) (s .pre .0) (k .kind .ensures) (p .parent .ensures) (i .if1 .left) (omega arith) (t .kind2 .ensures)
-    (a .allows2 .ensures ∙ ap (ruleAllows (parentRule (k .kind .result))) (l .line .ensures)) (not-false (a .allows2 .result) (e .if4 .left)) (d .before .if5 .left)
-    (now (s .args .children)) (s .pre .1 .1) (d .linked .ensures) (g .is-element .ensures)
+    structure-other (now (s .args .table)) pool (s .args .row .0) (s .pre .0 .0) (k .kind .ensures) (p .parent .ensures) (i .if1 .left) (omega arith) (t .kind2 .ensures)
+    (a .allows2 .ensures ∙ ap (ruleAllows (parentRule (k .kind .result))) (l .line .ensures)) (not-false (a .allows2 .result) (e .if4 .left)) (sym (g .is-element .ensures) ∙ not-true (g .is-element .result) (c .if6 .taken))
+
+has-element-requires : tie.Need-has-element-requires
+has-element-requires c κs = search needs
+
+returns-7 : tie.Need-returns-7
+returns-7 c =
+    let n = c .before in
+    let g = n .before in
+    let d = g .before in
+    let e = d .before in
+    let a = e .before in
+    let l = a .before in
+    let t = l .before .before in
+    let i = t .before .before .before .before in
+    let p = i .before .before in
+    let k = p .before in
+    let s = k .before .before .before in
+    λ pool.
+    structure-second (now (s .args .table)) pool (s .args .row .0) (s .pre .0 .0) (k .kind .ensures) (p .parent .ensures) (i .if1 .left) (omega arith) (t .kind2 .ensures)
+    (a .allows2 .ensures ∙ ap (ruleAllows (parentRule (k .kind .result))) (l .line .ensures)) (not-false (a .allows2 .result) (e .if4 .left)) (d .if5 .left)
+    (sym (g .is-element .ensures) ∙ not-false (g .is-element .result) (n .if6 .left)) (c .has-element .ensures)
 
 pub bad-spec : {M : Type 1} → statement M
 bad-spec =
@@ -145,6 +161,7 @@ bad-spec =
     allows-requires-2
     returns-4
     returns-5
-    linked-requires
     is-element-requires
-    returns-6)
+    returns-6
+    has-element-requires
+    returns-7)

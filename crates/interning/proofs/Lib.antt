@@ -1,0 +1,3 @@
+pub mod Interning
+pub mod Counting
+pub mod Keying
