@@ -3,13 +3,9 @@ use Rattle.rules.specs.Answers as rules
 use Rattle.rules.specs.declared.Checked.{Checked}
 use Rattle.rules.specs.declared.Located.{Located}
 use Rattle.rules.specs.declared.Bound.{Bound}
-use Rattle.rules.specs.declared.Filled.{Filled}
-use Rattle.rules.specs.declared.Written.{Written}
 use Rattle.refusal_numbers.specs.declared.Number.{Number}
 use Rattle.refusal_numbers.specs.Given.{numberGiven}
 use Rattle.answers.specs.declared.Found.{Found}
-use Rattle.answers.specs.declared.Sizes.{Sizes}
-use Rattle.answers.specs.declared.Used.{Used}
 
 abbrev pub checkGiven : Checked → Number
 checkGiven a = numberGiven (rules.checkNumber a)
@@ -19,9 +15,3 @@ locatedGiven a = record { number = numberGiven (rules.locatedNumber a); found = 
 
 abbrev pub boundGiven : Bound → Found
 boundGiven a = record { number = numberGiven (rules.boundNumber a); found = rules.boundFound a; place = rules.boundPlace a }
-
-abbrev pub filledGiven : Filled → Sizes
-filledGiven a = record { number = numberGiven (rules.filledNumber a); rows = rules.filledRows a; bytes = rules.filledBytes a }
-
-abbrev pub writtenGiven : Written → Used
-writtenGiven a = record { number = numberGiven (rules.writtenNumber a); bytes = rules.writtenBytes a }

@@ -1,16 +1,14 @@
-// RULES 2: the numbers and values of each answer, as structs that C reads too.
+// RULES 2: the number and values of the answers of the check and the lookups, as structs that C reads too.
 ghost use mathlib.Core.Path.{_≡_};
-ghost use Rattle.answers.specs.Given.{checkGiven, locatedGiven, boundGiven, filledGiven, writtenGiven};
+ghost use Rattle.answers.specs.Given.{checkGiven, locatedGiven, boundGiven};
 pub use refusal_numbers::Number;
 use refusal_numbers::number_of;
 use rules::Bound;
 use rules::Checked;
-use rules::Filled;
 use rules::Located;
 use rules::Offset;
 use rules::Place;
 use rules::Row;
-use rules::Written;
 
 // What a lookup found, and where. The place is 0, 0 for nothing, for a built-in and for a refusal.
 #[repr(C)]
@@ -28,21 +26,6 @@ pub const PLACE: u32 = 1;
 pub const BUILT_IN_XML: u32 = 2;
 
 pub const BUILT_IN_XMLNS: u32 = 3;
-
-// The rows and bytes of two outputs that are used; 0 for a refusal.
-#[repr(C)]
-pub struct Sizes {
-    pub number: Number,
-    pub rows: usize,
-    pub bytes: usize,
-}
-
-// The bytes of an output that are used; 0 for a refusal.
-#[repr(C)]
-pub struct Used {
-    pub number: Number,
-    pub bytes: usize,
-}
 
 const NOT_REFUSED: Number = Number {
     number: 0,
@@ -86,24 +69,6 @@ pub fn bound(answer: Bound) -> Found
     }
 }
 
-pub fn filled(answer: Filled) -> Sizes
-    ensures { λ r. ⌜ r ≡ filledGiven answer ⌝ }
-{
-    match answer {
-        Filled::Done { rows, bytes } => Sizes::new(NOT_REFUSED, rows, bytes),
-        Filled::Refused(refusal) => Sizes::new(number_of(refusal), 0, 0),
-    }
-}
-
-pub fn written(answer: Written) -> Used
-    ensures { λ r. ⌜ r ≡ writtenGiven answer ⌝ }
-{
-    match answer {
-        Written::Done { bytes } => Used::new(NOT_REFUSED, bytes),
-        Written::Refused(refusal) => Used::new(number_of(refusal), 0),
-    }
-}
-
 impl Found {
     fn new(number: Number, found: u32, place: Place) -> Self
         ensures { λ r. ⌜ r ≡ record { number = number; found = found; place = place } ⌝ }
@@ -113,25 +78,5 @@ impl Found {
             found,
             place,
         }
-    }
-}
-
-impl Sizes {
-    fn new(number: Number, rows: usize, bytes: usize) -> Self
-        ensures { λ r. ⌜ r ≡ record { number = number; rows = rows; bytes = bytes } ⌝ }
-    {
-        Self {
-            number,
-            rows,
-            bytes,
-        }
-    }
-}
-
-impl Used {
-    fn new(number: Number, bytes: usize) -> Self
-        ensures { λ r. ⌜ r ≡ record { number = number; bytes = bytes } ⌝ }
-    {
-        Self { number, bytes }
     }
 }

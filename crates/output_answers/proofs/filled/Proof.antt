@@ -1,11 +1,11 @@
--- `answers::filled` meets its contract.
+-- `output_answers::filled` meets its contract.
 -- Assumes nothing.
 use Rattle.rules.specs.Answers.{filledNumber, filledRows, filledBytes}
-use Rattle.answers.specs.Given.{filledGiven}
+use Rattle.output_answers.specs.Given.{filledGiven}
 use Rattle.refusal_numbers.proofs.Told.{told}
 use borrow.Author.Needs.{needs}
-use Rattle.answers.proofs.filled.Statement.{statement}
-use Rattle.answers.proofs.filled.Tie as tie
+use Rattle.output_answers.proofs.filled.Statement.{statement}
+use Rattle.output_answers.proofs.filled.Tie as tie
 
 pub filled-spec : {M : Type 1} → statement M
 unfolding filledNumber filledRows filledBytes

@@ -1,11 +1,11 @@
--- `answers::written` meets its contract.
+-- `output_answers::written` meets its contract.
 -- Assumes nothing.
 use Rattle.rules.specs.Answers.{writtenNumber, writtenBytes}
-use Rattle.answers.specs.Given.{writtenGiven}
+use Rattle.output_answers.specs.Given.{writtenGiven}
 use Rattle.refusal_numbers.proofs.Told.{told}
 use borrow.Author.Needs.{needs}
-use Rattle.answers.proofs.written.Statement.{statement}
-use Rattle.answers.proofs.written.Tie as tie
+use Rattle.output_answers.proofs.written.Statement.{statement}
+use Rattle.output_answers.proofs.written.Tie as tie
 
 pub written-spec : {M : Type 1} → statement M
 unfolding writtenNumber writtenBytes
