@@ -1,8 +1,5 @@
--- Elements: the climb to ancestor elements, step by step. Collected: what the climb writes to a path. StartElement: the start
--- element of a row, as the code finds it. Nearest: elements of a table, the nearest ancestor element, and what a path has.
--- Started: a lookup without elements is one without a start element.
-pub mod Elements
-pub mod Collected
+-- StartElement: the start element of a row, as the code finds it. Nearest: elements of a table, the nearest ancestor element, and
+-- what a path has. Started: a lookup without elements is one without a start element.
 pub mod StartElement
 pub mod Nearest
 pub mod Started

@@ -16,8 +16,9 @@ use Rattle.rules.specs.Lookups.{elementsFrom, nearest, ancestorElement, startEl
 use Rattle.rules.proofs.Table.{length-nodes}
 use Rattle.rows.specs.Reading.{rowOr}
 use Rattle.rows.proofs.Words.{type-word, parent-word}
-use Rattle.ancestors.specs.Paths.{Element, PathOf, pathWith}
-use Rattle.ancestors.proofs.Elements.{above, elements-element, elements-outside, element-inside, elements-each, elements-length, ancestor-split}
+use Rattle.climbing.specs.Steps.{pathWith}
+use Rattle.ancestors.specs.Paths.{Element, PathOf}
+use Rattle.climbing.proofs.Elements.{above, elements-element, elements-outside, element-inside, elements-each, elements-length, ancestor-split}
 
 -- An element by its words and by its row.
 module _ (table pool : List ℕ) (e : ℕ) where

@@ -15,7 +15,7 @@ use Rattle.rules.specs.Table.{NONE, ATTRIBUTE, ENTITY, DOCUMENT, DOCUMENT-TYPE,
 use Rattle.rules.specs.Lookups.{ancestorElement, owner, elementChild, startElement, outwardFrom, lookupElements}
 use Rattle.rules.proofs.Lists.{by-cases, both-true, firstThat-passes}
 use Rattle.rules.proofs.Accepted.{Accepted, owner-element}
-use Rattle.ancestors.proofs.Elements.{above, elements-element, ancestor-split}
+use Rattle.climbing.proofs.Elements.{above, elements-element, ancestor-split}
 
 module _ (table pool : List ℕ) (r : ℕ) (accepted : Accepted table pool) (inside : r < length (nodes table pool)) where
   abbrev ns : List Node

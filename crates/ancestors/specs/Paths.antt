@@ -1,11 +1,10 @@
 -- Elements of a table, and paths of them.
-use Prim.Native.Nat.{ℕ, _-_, _≤_, _<_}
+use Prim.Native.Nat.{ℕ, _≤_, _<_}
 use mathlib.Core.Bool.{true}
-use mathlib.Core.List.{List, _++_}
+use mathlib.Core.List.{List}
 use mathlib.Core.Path.{_≡_}
-use lib.ListN.{length, getD, take}
-use Rattle.rules.specs.Table.{TYPE, nodes, rowCount, word, isElement}
-use Rattle.rules.specs.Lookups.{elementsFrom}
+use lib.ListN.{length, getD}
+use Rattle.rules.specs.Table.{TYPE, rowCount, word, isElement}
 
 -- Row e is an element of the table.
 pub record Element (table : List ℕ) (e : ℕ) : Type 0 where
@@ -16,14 +15,3 @@ pub record Element (table : List ℕ) (e : ℕ) : Type 0 where
 pub record PathOf (table path : List ℕ) (count : ℕ) : Type 0 where
   pub room : count ≤ length path
   pub each : (i : ℕ) → i < count → Element table (getD path i 0)
-
--- The first places of the path, so many, and then these rows, as many as the path has room for.
-abbrev pub pathWith : List ℕ → ℕ → List ℕ → List ℕ
-pathWith path count rows = take count path ++ take (length path - count) rows
-
--- One step of the climb from row r, with so many places of the path taken: it goes on to a lower row, for which a place is left, or it ends.
-pub record Stepped (table path : List ℕ) (r count : ℕ) (after : List ℕ) (next taken : ℕ) : Type 0 where
-  pub room : taken ≤ length after
-  pub onward :
-      next < r → (taken < length after) × ((pool : List ℕ) → pathWith after taken (elementsFrom (nodes table pool) next) ≡ pathWith path count (elementsFrom (nodes table pool) r))
-  pub ended : r ≤ next → (pool : List ℕ) → take taken after ≡ pathWith path count (elementsFrom (nodes table pool) r)

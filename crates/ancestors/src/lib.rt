@@ -1,15 +1,16 @@
 // The elements that a row lies in, from the nearest outward, as a path: an array of their row numbers.
 // No such element is NONE.
 ghost use mathlib.Core.Path.{_≡_};
-ghost use mathlib.Core.Bool.{cond, _&&_, _||_};
+ghost use mathlib.Core.Bool.{_&&_};
 ghost use mathlib.Core.List.{List};
-ghost use Prim.Native.Nat.{ℕ, _+_, _<_, _≤_};
-ghost use lib.ListN.{length, set, take};
-ghost use lib.Dec.{eqb, ltb};
-ghost use Rattle.rules.specs.Table.{NONE, TYPE, PARENT, ENTITY-REFERENCE, nodes, rowCount, word, isElement};
+ghost use Prim.Native.Nat.{ℕ, _<_, _≤_};
+ghost use lib.ListN.{length, take};
+ghost use lib.Dec.{eqb};
+ghost use Rattle.rules.specs.Table.{NONE, TYPE, PARENT, nodes, rowCount, word, isElement};
 ghost use Rattle.rules.specs.Lookups.{elementsFrom, ancestorElement, elementChild, startElement, lookupElements};
 ghost use Rattle.rows.specs.Reading.{rowOr};
-ghost use Rattle.ancestors.specs.Paths.{PathOf, pathWith, Stepped};
+ghost use Rattle.climbing.specs.Steps.{pathWith};
+ghost use Rattle.ancestors.specs.Paths.{PathOf};
 use rules::Row;
 
 // The elements that a lookup from the row goes through: its start element and outward. Answers how
@@ -94,57 +95,13 @@ fn collect(table: &[u32], row: Row, path: &mut [u32], count: usize) -> usize
     ensures { λ r. ⌜ r ≤ length (now (path .exit)) ⌝ }
     ensures { λ r. ⌜ ((pool : List ℕ) → take r (now (path .exit)) ≡ pathWith (now (path .entry)) count (elementsFrom (nodes (now (table .entry)) pool) (row .0))) ⌝ }
 {
-    let first = step(table, row, path, count);
+    let first = climbing::step(table, row, path, count);
     if first.row.0 < row.0 {
-        let second = step(table, first.row, path, first.taken);
+        let second = climbing::step(table, first.row, path, first.taken);
         if second.row.0 < first.row.0 {
             return collect(table, second.row, path, second.taken);
         }
         return second.taken;
     }
     first.taken
-}
-
-// Where a climb stands after a step: at the row that it goes on to, or at the same one where it ends; and
-// how many places of the path are taken.
-struct Reached {
-    row: Row,
-    taken: usize,
-}
-
-// Writes the row, if it is an element, and goes on to its parent, if it leads there and the path has a
-// place left.
-fn step(table: &[u32], row: Row, path: &mut [u32], count: usize) -> Reached
-    requires { ⌜ (row .0 < rowCount (now table)) × (count < length (now path)) ⌝ }
-    ensures { λ r. ⌜ Stepped (now (table .entry)) (now (path .entry)) (row .0) count (now (path .exit)) (r .row .0) (r .taken) ⌝ }
-{
-    let kind = rows::kind(table, row);
-    let parent = rows::parent(table, row);
-    let taken = enter(kind, row, path, count);
-    if leads_out(kind, row, parent) {
-        if taken < path.len() {
-            return Reached { row: parent, taken };
-        }
-    }
-    Reached { row, taken }
-}
-
-// Writes the row to the next place of the path, if it is an element.
-fn enter(kind: u32, row: Row, path: &mut [u32], count: usize) -> usize
-    requires { ⌜ count < length (now path) ⌝ }
-    ensures { λ r. ⌜ r ≡ cond (isElement kind) (count + 1) count ⌝ }
-    ensures { λ _. ⌜ now (path .exit) ≡ cond (isElement kind) (set (now (path .entry)) count (row .0)) (now (path .entry)) ⌝ }
-{
-    if rows::is_element(kind) {
-        path[count] = row.0;
-        return count + 1;
-    }
-    count
-}
-
-// The climb goes on from the row to its parent: over elements and entity references.
-fn leads_out(kind: u32, row: Row, parent: Row) -> bool
-    ensures { λ r. ⌜ r ≡ ((isElement kind || eqb kind ENTITY-REFERENCE) && ltb (parent .0) (row .0)) ⌝ }
-{
-    (rows::is_element(kind) | (kind == rules::ENTITY_REFERENCE)) & (parent.0 < row.0)
 }

@@ -22,7 +22,8 @@ use Rattle.rules.proofs.Accepted.{accepted, few-rows}
 use Rattle.notes.specs.Notes.{NOTES, LATEST, noteAt}
 use Rattle.numbers.specs.Numbers.{Names}
 use Rattle.dictionary.specs.Dictionary.{lastOf, spelling}
-use Rattle.checker.specs.Lent.{dictionaryWords, Lent, Named}
+use Rattle.row_checks.specs.Arrays.{dictionaryWords, Named}
+use Rattle.checker.specs.Lent.{Lent}
 use Rattle.checker.proofs.Lending.{zeros-lent}
 use Rattle.ancestors.specs.Paths.{Element, PathOf}
 use Rattle.scopes.specs.Standing.{Linked}

@@ -8,7 +8,8 @@ ghost use lib.ListN.{length, take};
 ghost use Rattle.rules.specs.Table.{nodes, rowCount};
 ghost use Rattle.rules.specs.Lookups.{lookupElements};
 ghost use Rattle.scopes.specs.Standing.{Relinked};
-ghost use Rattle.checker.specs.Lent.{FEW-ROWS, Lent};
+ghost use Rattle.table_size.specs.Small.{FEW-ROWS};
+ghost use Rattle.checker.specs.Lent.{Lent};
 ghost use Rattle.declarations.specs.Along.{Along};
 ghost use Rattle.beginning.specs.Ground.{Blank, Unlinked, Begins};
 use rules::Checked;
@@ -27,7 +28,7 @@ pub fn begin(table: &[u32], pool: &[u8], row: Row, name: &[u8], notes: &mut [u16
     requires { ⌜ Blank (now table) (now notes) ⌝ }
     ensures { λ r. ⌜ Begins (now (table .entry)) (now (pool .entry)) (row .0) (now (notes .exit)) (now (name .entry)) r ⌝ }
 {
-    if rows::row_count(table) <= checker::FEW_ROWS {
+    if rows::row_count(table) <= table_size::FEW_ROWS {
         return begin_few(table, pool, row, name, notes);
     }
     let mut dictionary = [0; checker::DICTIONARY];
@@ -61,7 +62,7 @@ fn begin_in(
     match verdict {
         Checked::Accepted => {
             if rows::has_row(table, row) {
-                return Begun::Asked(dictionary::number_of_name(dictionary, pool, name));
+                return Begun::Asked(asked_names::number_of_name(dictionary, pool, name));
             }
             Begun::Refused(Refusal::NoSuchRow)
         }

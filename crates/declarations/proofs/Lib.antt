@@ -1,9 +1,7 @@
 -- Rows: what a row number stands for. Meanings: what the numbers of a row say. Walking: an element's declarations, along the links.
 -- Path: what is declared along a path. Served: whether a declaration serves.
--- Answers: what each answer of the code is in the definitions.
 pub mod Rows
 pub mod Meanings
 pub mod Walking
 pub mod Path
 pub mod Served
-pub mod Answers

@@ -20,7 +20,7 @@ pub fn uri_of_prefix(table: &[u32], pool: &[u8], row: Row, prefix: &[u8]) -> Bou
 pub fn prefix_of_uri(table: &[u32], pool: &[u8], row: Row, uri: &[u8]) -> Located
     ensures { λ r. ⌜ r ≡ prefixOfUriAt (now (table .entry)) (now (pool .entry)) (row .0) (now (uri .entry)) ⌝ }
 {
-    resolver::without_built_ins(resolver::lookup(table, pool, row, Question::PrefixOfUri, uri))
+    located::without_built_ins(resolver::lookup(table, pool, row, Question::PrefixOfUri, uri))
 }
 
 // The default URI at a row: that of the empty prefix. Whoever asks whether a URI is the default compares; nothing equals the
@@ -28,7 +28,7 @@ pub fn prefix_of_uri(table: &[u32], pool: &[u8], row: Row, uri: &[u8]) -> Locate
 pub fn default_uri(table: &[u32], pool: &[u8], row: Row) -> Located
     ensures { λ r. ⌜ r ≡ defaultUriAt (now (table .entry)) (now (pool .entry)) (row .0) ⌝ }
 {
-    resolver::without_built_ins(resolver::lookup(table, pool, row, Question::UriOfPrefix, b""))
+    located::without_built_ins(resolver::lookup(table, pool, row, Question::UriOfPrefix, b""))
 }
 
 // The in-scope URI of a prefix at a row: by declarations alone.

@@ -24,10 +24,10 @@ pub fn uri_of_prefix(
     requires { ⌜ Started (now table) (now notes) (now path) ⌝ }
     ensures { λ r. ⌜ ((pool : List ℕ) → Meant (now (table .entry)) pool (now (notes .entry)) (number .0) (now (prefix .entry)) → r ≡ bound (uriOfPrefix (nodes (now (table .entry)) pool) (now (prefix .entry)) (now (path .entry)))) ⌝ }
 {
-    if names::is_xml(prefix) {
+    if built_ins::is_xml(prefix) {
         return Bound::Xml;
     }
-    if names::is_xmlns(prefix) {
+    if built_ins::is_xmlns(prefix) {
         return Bound::Xmlns;
     }
     let row = deciding(table, notes, path, number);

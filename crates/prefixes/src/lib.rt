@@ -31,7 +31,7 @@ pub fn prefix_of_uri(
     if wanted == 0 {
         return Bound::Nothing;
     }
-    let xml = names::is_xml_uri(uri);
+    let xml = built_ins::is_xml_uri(uri);
     let mut left = path;
     while left.len() > 0 {
         let element = rows::row_at(left, 0);

@@ -56,7 +56,7 @@ fn along(
     match question {
         Question::UriOfPrefix => outward::uri_of_prefix(table, notes, path, query, number),
         Question::PrefixOfUri => prefixes::prefix_of_uri(table, notes, path, query, number),
-        Question::InScopeUri => declarations::in_scope_uri(table, notes, path, query, number),
-        Question::InScopePrefix => declarations::in_scope_prefix(table, notes, path, query, number),
+        Question::InScopeUri => in_scope::in_scope_uri(table, notes, path, query, number),
+        Question::InScopePrefix => in_scope::in_scope_prefix(table, notes, path, query, number),
     }
 }

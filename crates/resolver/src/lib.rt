@@ -3,10 +3,9 @@
 ghost use mathlib.Core.Path.{_≡_};
 ghost use Prim.Native.Nat.{_≤_};
 ghost use Rattle.rules.specs.Table.{rowCount};
-ghost use Rattle.rules.specs.Lookups.{withoutBuiltIns, lookupAt};
-ghost use Rattle.checker.specs.Lent.{FEW-ROWS};
+ghost use Rattle.rules.specs.Lookups.{lookupAt};
+ghost use Rattle.table_size.specs.Small.{FEW-ROWS};
 use rules::Bound;
-use rules::Located;
 use rules::Question;
 use rules::Row;
 
@@ -14,7 +13,7 @@ use rules::Row;
 pub fn lookup(table: &[u32], pool: &[u8], row: Row, question: Question, query: &[u8]) -> Bound
     ensures { λ r. ⌜ r ≡ lookupAt question (now (table .entry)) (now (pool .entry)) (row .0) (now (query .entry)) ⌝ }
 {
-    if rows::row_count(table) <= checker::FEW_ROWS {
+    if rows::row_count(table) <= table_size::FEW_ROWS {
         return lookup_few(table, pool, row, question, query);
     }
     let mut notes = [0; checker::NOTES];
@@ -29,20 +28,7 @@ pub fn lookup_few(table: &[u32], pool: &[u8], row: Row, question: Question, quer
     ensures { λ r. ⌜ r ≡ lookupAt question (now (table .entry)) (now (pool .entry)) (row .0) (now (query .entry)) ⌝ }
 {
     let mut notes = [0; checker::SMALL_NOTES];
-    let mut path = [rules::NONE; checker::FEW_ROWS];
+    let mut path = [rules::NONE; table_size::FEW_ROWS];
     let begun = beginning::begin_few(table, pool, row, query, &mut notes);
     questions::lookup_begun(table, row, question, query, begun, &mut notes, &mut path)
-}
-
-// The answer of a lookup that finds no built-in.
-pub fn without_built_ins(found: Bound) -> Located
-    ensures { λ r. ⌜ r ≡ withoutBuiltIns found ⌝ }
-{
-    match found {
-        Bound::At(place) => Located::At(place),
-        Bound::Xml => Located::Nothing,
-        Bound::Xmlns => Located::Nothing,
-        Bound::Nothing => Located::Nothing,
-        Bound::Refused(x) => Located::Refused(x),
-    }
 }

@@ -1,10 +1,10 @@
-// Putting a position on the stacks of a scope, and taking the newest one off.
+// Putting a position on the stacks of a scope.
 ghost use mathlib.Core.Path.{_≡_};
 ghost use mathlib.Core.List.{List, _∷_};
 ghost use Prim.Native.Nat.{ℕ, _+_, _*_, _<_};
 ghost use lib.ListN.{length, set};
 ghost use Rattle.stacks.specs.Scopes.{Each};
-ghost use Rattle.stacks.specs.Stacks.{TOPS, PATH, PREFIXES, BELOW, topAt, underAt, prefixAt, Inside, NoneOrInside, On, Untouched};
+ghost use Rattle.stacks.specs.Stacks.{TOPS, PATH, PREFIXES, topAt, prefixAt, Inside, NoneOrInside, On, Untouched};
 use rules::NameId;
 use rules::Position;
 
@@ -25,23 +25,6 @@ pub fn push(notes: &[u16], tops: &mut [u16], path: &mut [u16], position: Positio
     path[stacks::BELOW] = position.0;
 }
 
-// Takes the newest position off.
-pub fn pop(notes: &[u16], tops: &mut [u16], path: &mut [u16])
-    requires { ⌜ Inside (now notes) (now tops) (now path) (underAt (now path) BELOW 0) ⌝ }
-    requires { ⌜ NoneOrInside (now notes) (now tops) (now path) (underAt (now path) PREFIXES (underAt (now path) BELOW 0)) ⌝ }
-    ensures { λ _. ⌜ ((scope : List ℕ) → On (now (notes .entry)) (now (tops .entry)) (now (path .entry)) (underAt (now (path .entry)) BELOW 0 ∷ scope) → On (now (notes .entry)) (now (tops .exit)) (now (path .exit)) scope) ⌝ }
-    ensures { λ _. ⌜ Untouched (now (path .entry)) (now (path .exit)) ⌝ }
-{
-    let position = Position(path[stacks::BELOW]);
-    let prefix = notes::name_at(notes, position, notes::LOCAL_NAME);
-    let value = notes::name_at(notes, position, notes::VALUE);
-    let shadowed = stacks::under(path, position, stacks::PREFIXES);
-    serving::replace(notes, tops, prefix, position, shadowed);
-    uncover(tops, path, position, stacks::PREFIXES, prefix);
-    uncover(tops, path, position, stacks::VALUES, value);
-    path[stacks::BELOW] = path[stacks::PATH * position.0 as usize + stacks::BELOW];
-}
-
 // Puts a position on top of a number, and what was on top under it.
 fn cover(tops: &mut [u16], path: &mut [u16], position: Position, k: usize, number: NameId)
     requires { ⌜ (TOPS * number .0 + k < length (now tops)) × (PATH * position .0 + k < length (now path)) ⌝ }
@@ -50,12 +33,4 @@ fn cover(tops: &mut [u16], path: &mut [u16], position: Position, k: usize, numbe
 {
     path[stacks::PATH * position.0 as usize + k] = tops[stacks::TOPS * number.0 as usize + k];
     tops[stacks::TOPS * number.0 as usize + k] = position.0;
-}
-
-// Puts on top of a number what lies under a position.
-fn uncover(tops: &mut [u16], path: &[u16], position: Position, k: usize, number: NameId)
-    requires { ⌜ (TOPS * number .0 + k < length (now tops)) × (PATH * position .0 + k < length (now path)) ⌝ }
-    ensures { λ _. ⌜ now (tops .exit) ≡ set (now (tops .entry)) (TOPS * number .0 + k) (underAt (now (path .entry)) k (position .0)) ⌝ }
-{
-    tops[stacks::TOPS * number.0 as usize + k] = path[stacks::PATH * position.0 as usize + k];
 }

@@ -9,7 +9,7 @@ use borrow.Fn.PlainCycle.{Measures, is, falls, and}
 use Rattle.ancestors.proofs.collect.Reads as collect
 use Rattle.ancestors.proofs.collect.Kinds as collect-kinds
 use Rattle.ancestors.proofs.+collect.Lts-collect as collect-lts
-use Rattle.ancestors.proofs.step.Reads as step-reads
+use Rattle.climbing.proofs.step.Reads as step-reads
 use Rattle.ancestors.proofs.+collect.{statement}
 use Rattle.ancestors.proofs.+collect.Tie.{close}
 

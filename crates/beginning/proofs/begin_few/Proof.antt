@@ -1,7 +1,7 @@
 -- `beginning::begin_few` meets its contract.
 -- Assumes nothing.
 use borrow.Author.Needs.{needs}
-use Rattle.checker.specs.Lent.{FEW-ROWS}
+use Rattle.table_size.specs.Small.{FEW-ROWS}
 use Rattle.beginning.proofs.Beginning.{lent}
 use Rattle.beginning.proofs.begin_few.Statement.{statement}
 use Rattle.beginning.proofs.begin_few.Tie as tie

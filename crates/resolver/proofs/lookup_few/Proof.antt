@@ -1,7 +1,7 @@
 -- `resolver::lookup_few` meets its contract.
 -- Assumes nothing.
 use borrow.Author.Needs.{needs}
-use Rattle.checker.specs.Lent.{FEW-ROWS}
+use Rattle.table_size.specs.Small.{FEW-ROWS}
 use Rattle.questions.proofs.Going.{notes-lent, way}
 use Rattle.resolver.proofs.lookup_few.Statement.{statement}
 use Rattle.resolver.proofs.lookup_few.Tie as tie
