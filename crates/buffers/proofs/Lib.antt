@@ -1,4 +1,3 @@
 pub mod Writes
-pub mod Numbered
 pub mod Rows
 pub mod Meaning

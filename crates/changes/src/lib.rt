@@ -22,7 +22,7 @@ pub fn set_value(table: &mut [u32], notes: &mut [u16], element: Row, declaration
     ensures { λ _. ⌜ now (notes .exit) ≡ noting.noted (now (notes .entry)) (declaration .0) noting.VALUE (noting.noteAt (now (notes .entry)) (element .0) noting.URI) ⌝ }
 {
     let uri = rows::place(&table[..rules::WIDTH * rows], element, rules::URI);
-    buffers::set_place(table, declaration, rules::VALUE, uri);
+    additions::set_place(table, declaration, rules::VALUE, uri);
     let number = notes::name(notes, element, notes::URI);
     notes::set_name(notes, declaration, notes::VALUE, number);
 }
@@ -45,7 +45,7 @@ pub fn take_prefix(
         declaration,
         rules::LOCAL_NAME,
     );
-    buffers::set_place(table, attribute, rules::PREFIX, prefix);
+    additions::set_place(table, attribute, rules::PREFIX, prefix);
     let number = notes::name(notes, declaration, notes::LOCAL_NAME);
     notes::set_name(notes, attribute, notes::PREFIX, number);
 }
@@ -61,7 +61,7 @@ pub fn write_declaration(table: &mut [u32], notes: &mut [u16], owner: Row, row: 
     let prefix = rows::place(words, row, rules::PREFIX);
     let uri = rows::place(words, row, rules::URI);
     let new = Row(rows as u32);
-    buffers::append_row(table, new, owner, prefix, uri);
+    additions::append_row(table, new, owner, prefix, uri);
     note_declaration(notes, new, row);
 }
 
@@ -96,7 +96,7 @@ pub fn take_xml(
         offset: Offset(bytes as u32),
         length: 3,
     };
-    buffers::set_place(table, attribute, rules::PREFIX, place);
+    additions::set_place(table, attribute, rules::PREFIX, place);
     notes::set_name(notes, attribute, notes::PREFIX, stacks::xml(path));
     bytes + 3
 }
@@ -116,12 +116,12 @@ pub fn take_numbered(
     requires { ⌜ (bytes + 6 ≤ length (now pool)) × (length (now pool) < 65536) ⌝ }
     ensures { λ r. ⌜ Named (now (table .entry)) (now (table .exit)) (now (pool .entry)) (now (pool .exit)) (now (notes .entry)) (now (notes .exit)) (attribute .0) bytes r (number .0) (numberedPrefix k) ⌝ }
 {
-    let length = buffers::append_numbered(pool, Offset(bytes as u32), k as u32);
+    let length = additions::append_numbered(pool, Offset(bytes as u32), k as u32);
     let place = Place {
         offset: Offset(bytes as u32),
         length: length as u32,
     };
-    buffers::set_place(table, attribute, rules::PREFIX, place);
+    additions::set_place(table, attribute, rules::PREFIX, place);
     notes::set_name(notes, attribute, notes::PREFIX, number);
     bytes + length
 }

@@ -7,7 +7,7 @@ use native.Mathlib.Omega.{arith}
 use lib.ListN.{length, take, replicate}
 use lib.Seq.{length-take-le}
 use Rattle.rules.specs.Table.{WIDTH, rowCount}
-use Rattle.checker.specs.Lent.{dictionaryWords}
+use Rattle.row_checks.specs.Arrays.{dictionaryWords}
 use Rattle.checker.specs.Lent as checking
 use Rattle.input.specs.Lent.{Blank}
 use Rattle.input.proofs.Numbered.{zeros-numbering}

@@ -4,7 +4,8 @@
 ghost use Prim.Native.Nat.{_*_, _≤_};
 ghost use lib.ListN.{take};
 ghost use Rattle.rules.specs.Table.{WIDTH};
-ghost use Rattle.checker.specs.Lent.{FEW-ROWS, Lent as Numbering};
+ghost use Rattle.table_size.specs.Small.{FEW-ROWS};
+ghost use Rattle.checker.specs.Lent.{Lent as Numbering};
 ghost use Rattle.input.specs.Lent.{Blank};
 ghost use Rattle.normal_form.specs.Result.{RoomFor, Made};
 ghost use Rattle.normal_form.specs.Lent.{Topped};
@@ -12,9 +13,9 @@ use input::Judged;
 use rules::Filled;
 
 // The words and bytes that any result of a small table and its pool has room in.
-pub const FEW_WORDS: usize = rules::WIDTH * 2 * checker::FEW_ROWS;
+pub const FEW_WORDS: usize = rules::WIDTH * 2 * table_size::FEW_ROWS;
 
-pub const FEW_WORK: usize = checker::FEW_BYTES + 6 * checker::FEW_ROWS;
+pub const FEW_WORK: usize = table_size::FEW_BYTES + 6 * table_size::FEW_ROWS;
 
 // Normalizes in place, in arrays for a small table.
 pub fn normalize_few(words: &mut [u32], work: &mut [u8], rows: usize, bytes: usize) -> Filled

@@ -17,7 +17,8 @@ use Rattle.notes.specs.Notes.{NOTES, LATEST, noteAt}
 use Rattle.numbers.specs.Numbers.{Names, numberIn}
 use Rattle.dictionary.specs.Dictionary.{lastOf, spelling}
 use Rattle.ns_names.specs.Records as records
-use Rattle.checker.specs.Lent.{FEW-ROWS, dictionaryWords, Named}
+use Rattle.row_checks.specs.Arrays.{dictionaryWords, Named}
+use Rattle.table_size.specs.Small.{FEW-ROWS}
 use Rattle.checker.specs.Lent as checking
 use Rattle.checker.proofs.Lending.{zeros-lent}
 use Rattle.stacks.specs.Stacks.{BELOW, NUMBERED, underAt}

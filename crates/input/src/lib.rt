@@ -16,9 +16,9 @@ use rules::Refusal;
 
 // The words of the notes and of the path that are lent for a small table and for any. A result has at most
 // twice the rows of its table.
-pub const SMALL_NOTES: usize = notes::NOTES * 2 * checker::FEW_ROWS;
+pub const SMALL_NOTES: usize = notes::NOTES * 2 * table_size::FEW_ROWS;
 
-pub const SMALL_PATH: usize = stacks::PATH * 2 * checker::FEW_ROWS + stacks::PATH;
+pub const SMALL_PATH: usize = stacks::PATH * 2 * table_size::FEW_ROWS + stacks::PATH;
 
 pub const NOTES: usize = checker::NOTES;
 
@@ -61,7 +61,7 @@ fn enter_names(dictionary: &[u16], pool: &[u8], path: &mut [u16]) -> u16
     ensures { λ r. ⌜ Entered (now (dictionary .entry)) (now (pool .entry)) (now (path .exit)) r ⌝ }
 {
     ns_names::enter_all(dictionary, pool, path);
-    let xml = dictionary::number_of_name(dictionary, pool, b"xml");
+    let xml = asked_names::number_of_name(dictionary, pool, b"xml");
     stacks::set_xml(path, xml);
     let last = dictionary::last(dictionary);
     if last.0 < xml.0 {

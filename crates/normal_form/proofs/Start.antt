@@ -21,7 +21,7 @@ use Rattle.stacks.specs.Stacks.{TOPS}
 use Rattle.scopes.specs.Standing.{Linked}
 use Rattle.scopes.proofs.Changes.{standing-start, linked-changed}
 use Rattle.buffers.proofs.Meaning.{copied}
-use Rattle.checker.specs.Lent.{FEW-ROWS}
+use Rattle.table_size.specs.Small.{FEW-ROWS}
 use Rattle.working.specs.Working.{Room, Spare, meant}
 use Rattle.working.proofs.Changed.{numbers-relinked}
 use Rattle.element_steps.specs.Buffers.{Working, Finished}

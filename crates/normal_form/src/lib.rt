@@ -16,7 +16,7 @@ pub const WORK: usize = rules::MOST_BYTES + 6 * rules::MOST_ROWS;
 
 // The words of the tops that are lent for a small table and for any. Up to three names of each row, one
 // more for each that is added, and xml have numbers.
-pub const SMALL_TOPS: usize = stacks::TOPS * (4 * checker::FEW_ROWS + 2);
+pub const SMALL_TOPS: usize = stacks::TOPS * (4 * table_size::FEW_ROWS + 2);
 
 pub const TOPS: usize = stacks::TOPS * (3 * rules::MOST_ROWS + 2);
 

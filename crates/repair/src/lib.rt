@@ -66,7 +66,7 @@ pub fn repair_attribute(
         return sizes;
     }
     let words = &table[..rules::WIDTH * rows];
-    if names::is_xml_uri(rows::field(words, &pool[..bytes], attribute, rules::URI)) {
+    if built_ins::is_xml_uri(rows::field(words, &pool[..bytes], attribute, rules::URI)) {
         let grown = changes::take_xml(table, pool, notes, path, attribute, bytes);
         return Sizes {
             rows,

@@ -1,6 +1,6 @@
 -- `in_place::normalize_few` meets its contract.
 -- Assumes nothing.
-use Rattle.checker.specs.Lent.{FEW-ROWS}
+use Rattle.table_size.specs.Small.{FEW-ROWS}
 use Rattle.input.proofs.Numbered.{blank-small}
 use Rattle.normal_form.proofs.Start.{topped-small}
 use Rattle.in_place.proofs.Room.{numbering}

@@ -1,4 +1,4 @@
--- `outputs::finish` meets its contract.
+-- `finishing::finish` meets its contract.
 -- Assumes nothing.
 use Prim.Native.Nat.{_*_, _≤_}
 use mathlib.Core.Path.{_≡_, refl, sym, _∙_}
@@ -8,10 +8,10 @@ use borrow.Author.Needs.{needs}
 use Rattle.rules.specs.Table.{WIDTH}
 use Rattle.rules.specs.Refusals.{verdict}
 use Rattle.rules.specs.declared.Checked.{Checked}
 use Rattle.outputs.specs.Ended.{roomLack}
 use Rattle.outputs.proofs.Ended.{enough-rows, enough-bytes, ended-refused, ended-done}
-use Rattle.outputs.proofs.finish.Statement.{statement}
-use Rattle.outputs.proofs.finish.Tie as tie
+use Rattle.finishing.proofs.finish.Statement.{statement}
+use Rattle.finishing.proofs.finish.Tie as tie
 
 room-requires : tie.Need-room-requires
 room-requires c κs = search needs

@@ -1,43 +1,16 @@
-// Namespace normalization into lent buffers, in arrays that are lent too.
+// The result of an input that draws none of the refusals of an input, made in lent outputs, by the rows that the output table
+// holds.
 ghost use mathlib.Core.Path.{_≡_};
 ghost use lib.ListN.{length};
 ghost use Rattle.rules.specs.Table.{rowCount};
 ghost use Rattle.rules.specs.Normalization.{normalized};
-ghost use Rattle.checker.specs.Lent.{Lent as Numbering};
-ghost use Rattle.input.specs.Lent.{Enough, Blank, Prepared};
+ghost use Rattle.input.specs.Lent.{Enough, Prepared};
 ghost use Rattle.normal_form.specs.Lent.{Topped};
-use input::Judged;
 use repair::Sizes;
 use rules::Filled;
 
-// Normalization of any input.
-pub fn normalize_lent(
-    table: &[u32],
-    pool: &[u8],
-    out_table: &mut [u32],
-    out_pool: &mut [u8],
-    dictionary: &mut [u16],
-    notes: &mut [u16],
-    path: &mut [u16],
-    tops: &mut [u16],
-) -> Filled
-    requires { ⌜ Blank (rowCount (now table)) (now notes) (now path) ⌝ }
-    requires { ⌜ Numbering (now table) (now dictionary) (now notes) ⌝ }
-    requires { ⌜ Topped (rowCount (now table)) (now tops) ⌝ }
-    ensures { λ r. ⌜ r ≡ normalized (now (table .entry)) (now (pool .entry)) (length (now («out_table» .entry))) (length (now («out_pool» .entry))) .answer ⌝ }
-    ensures { λ _. ⌜ now («out_table» .exit) ≡ normalized (now (table .entry)) (now (pool .entry)) (length (now («out_table» .entry))) (length (now («out_pool» .entry))) .table ⌝ }
-    ensures { λ _. ⌜ now («out_pool» .exit) ≡ normalized (now (table .entry)) (now (pool .entry)) (length (now («out_table» .entry))) (length (now («out_pool» .entry))) .pool ⌝ }
-{
-    match input::judge(table, pool, dictionary, notes, path) {
-        Judged::Numbered(names) => {
-            normalize_accepted(table, pool, out_table, out_pool, notes, path, tops, names)
-        }
-        Judged::Refused(why) => outputs::refuse(out_table, out_pool, why),
-    }
-}
-
 // Normalizes an input that draws none of the refusals of an input.
-fn normalize_accepted(
+pub fn normalize_accepted(
     table: &[u32],
     pool: &[u8],
     out_table: &mut [u32],
@@ -73,5 +46,5 @@ fn normalize_accepted(
         tops,
         sizes,
     );
-    outputs::finish(out_table, out_pool, &work, made.rows, made.bytes, limit)
+    finishing::finish(out_table, out_pool, &work, made.rows, made.bytes, limit)
 }

@@ -9,15 +9,15 @@ use borrow.Author.Needs.{needs}
 use borrow.Fn.Kinds.{In}
 use borrow.Fn.PlainCycle.{Measures, is, falls, and}
 use native.Mathlib.Omega.{arith}
 use Rattle.buffers.specs.Writes.{written}
-use Rattle.buffers.proofs.Numbered.{numbered-last, more-length, numbered-stored}
-use Rattle.buffers.proofs.append_numbered.Reads as append-numbered
-use Rattle.buffers.proofs.append_numbered.Kinds as append-numbered-kinds
-use Rattle.buffers.proofs.+append_numbered.Lts-append_numbered as append-numbered-lts
+use Rattle.additions.proofs.Numbered.{numbered-last, more-length, numbered-stored}
+use Rattle.additions.proofs.append_numbered.Reads as append-numbered
+use Rattle.additions.proofs.append_numbered.Kinds as append-numbered-kinds
+use Rattle.additions.proofs.+append_numbered.Lts-append_numbered as append-numbered-lts
 use Rattle.buffers.proofs.append_bytes.Reads as append-bytes-reads
-use Rattle.buffers.proofs.digit.Reads as digit-reads
-use Rattle.buffers.proofs.+append_numbered.{statement}
-use Rattle.buffers.proofs.+append_numbered.Tie.{close}
+use Rattle.additions.proofs.digit.Reads as digit-reads
+use Rattle.additions.proofs.+append_numbered.{statement}
+use Rattle.additions.proofs.+append_numbered.Tie.{close}
 
 abbrev μ-append-numbered : Measures 1 append-numbered-kinds.ps ℕ
 μ-append-numbered κs a = a .1 .1 .0

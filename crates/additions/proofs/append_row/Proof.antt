@@ -1,8 +1,8 @@
--- `buffers::append_row` meets its contract: the words are those of the new declaration.
+-- `additions::append_row` meets its contract: the words are those of the new declaration.
 -- Assumes nothing.
 use borrow.Author.Needs.{needs}
-use Rattle.buffers.proofs.append_row.Statement.{statement}
-use Rattle.buffers.proofs.append_row.Tie as tie
+use Rattle.additions.proofs.append_row.Statement.{statement}
+use Rattle.additions.proofs.append_row.Tie as tie
 
 slice-aggregate-write-rows : tie.Need-slice-aggregate-write-rows
 slice-aggregate-write-rows c = search needs

@@ -1,4 +1,4 @@
--- `normalization::normalize_accepted` meets its contract.
+-- `made_in_outputs::normalize_accepted` meets its contract.
 -- Assumes nothing.
 use Prim.Native.Nat.{ℕ}
 use mathlib.Core.Path.{refl}
@@ -7,8 +7,8 @@ use Rattle.normal_form.specs.Lent.{WORK}
 use Rattle.normal_form.proofs.Outcome.{outcome-ended}
 use Rattle.normal_form.proofs.Start.{enough-read, topped-read}
 use borrow.Author.Needs.{needs}
-use Rattle.normalization.proofs.normalize_accepted.Statement.{statement}
-use Rattle.normalization.proofs.normalize_accepted.Tie as tie
+use Rattle.made_in_outputs.proofs.normalize_accepted.Statement.{statement}
+use Rattle.made_in_outputs.proofs.normalize_accepted.Tie as tie
 
 row-limit-requires : tie.Need-row-limit-requires
 row-limit-requires c κs = search needs

@@ -1,0 +1,2 @@
+-- Numbered: the bytes of an NS prefix, digit by digit.
+pub mod Numbered
