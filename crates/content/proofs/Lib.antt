@@ -1,3 +1,2 @@
-pub mod Owned
-pub mod Rows
 pub mod Rest
+pub mod Rows

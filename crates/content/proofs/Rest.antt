@@ -18,7 +18,7 @@ use Rattle.children.specs.Children.{isUnder}
 use Rattle.markup.specs.Trees.{Content, nothing, text, element, Qualified, qualifiedName, writtenAttributes, writtenTree}
 use Rattle.markup.specs.Markup.{startTag, endTag, markup}
 use Rattle.markup.proofs.Reading.{gathered-append}
-use Rattle.content.specs.Content.{Linked, before}
+use Rattle.tags.specs.Links.{Linked, before}
 use Rattle.content.proofs.Rows.{content, items, none-items, Here, parent-is, here-first, here-next, next-items, content-items}
 
 -- the tags and texts of a content, in order

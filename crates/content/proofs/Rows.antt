@@ -6,7 +6,7 @@ use mathlib.Core.Bool.{Bool, true, false, cond, _&&_}
 use mathlib.Core.List.{List, [], _∷_, map}
 use native.Mathlib.Omega.{arith}
 use lib.Dec.{eqb}
-use borrow.Author.Tests.{eqb-true, eqb-false, ne-eqb}
+use borrow.Author.Tests.{eqb-true, eqb-false}
 use Rattle.rules.specs.Lists.{filtered, numbersFrom, isOneOf}
 use Rattle.rules.specs.Table.{TYPE, PARENT, ELEMENT, TEXT, Node, nodes, node, rowCount, word}
 use Rattle.rules.proofs.Lists.{by-cases, both-true}
@@ -16,7 +16,7 @@ use Rattle.notes.specs.Notes.{LATEST, noteAt}
 use Rattle.children.specs.Children.{kinds, isUnder, rowsFrom}
 use Rattle.children.proofs.Walking.{Reached, rows-first, reach-first, rows-next, reach-next, next-later, rows-end}
 use Rattle.markup.specs.Trees.{Content, nothing, text, element, Qualified, childRows, itemsOf, contentOf, qualifiedName, writtenAttributes}
-use Rattle.content.specs.Content.{Linked, before, left}
+use Rattle.tags.specs.Links.{Linked, before}
 
 -- Rows that pass a test are positions that pass it.
 by-positions : (passes : ℕ → Bool) (there : ℕ → Bool) (i count : ℕ) → ((r : ℕ) → r < i + count → passes r ≡ there (suc r)) → filtered passes (numbersFrom i count) ≡ map before (filtered there (numbersFrom (suc i) count))
@@ -128,11 +128,3 @@ module _ (table pool : List ℕ) where
         one-more e row first head n (omega arith)
         (λ s j. same-items n s e row first (here-first e row first head) (λ i. omega arith) j)
         ∙ first-items e row first head n
-
--- How many rows are left falls.
-pub left-falls : (n position next : ℕ) → 0 < position → position ≤ n → (0 < next → position < next) → left n next < left n position
-unfolding left
-left-falls n position next h within rises =
-    by-cases (eqb next 0)
-    (λ t. rw (t, ne-eqb position 0 (λ e. omega arith)) (omega arith))
-    (λ t. let some = eqb-false next 0 t in let later = rises (omega arith) in rw (t, ne-eqb position 0 (λ e. omega arith)) (omega arith))

@@ -1,12 +1,12 @@
 // An element and all that it holds as markup.
 ghost use Prim.Native.Nat.{_<_};
-ghost use Rattle.rules.specs.Lists.{gathered};
-ghost use Rattle.rules.specs.Table.{rowCount, nodes, nodeAt};
+ghost use Rattle.rules.specs.Table.{rowCount, nodes};
 ghost use Rattle.buffers.specs.Writes.{Put};
-ghost use Rattle.markup.specs.Trees.{qualifiedName, writtenAttributes, writtenTree};
-ghost use Rattle.markup.specs.Markup.{attributeMarkup, startTag, markup};
-ghost use Rattle.tags.specs.Marks.{Marked, Pooled};
-ghost use Rattle.content.specs.Content.{Linked};
+ghost use Rattle.markup.specs.Trees.{writtenTree};
+ghost use Rattle.markup.specs.Markup.{markup};
+ghost use Rattle.markup_names.specs.Pooled.{Pooled};
+ghost use Rattle.markup_values.specs.Marks.{Marked};
+ghost use Rattle.tags.specs.Links.{Linked};
 use rules::Position;
 use rules::Row;
 
@@ -31,7 +31,7 @@ pub fn put_element(
     let mut element = row.0;
     let mut depth = 0usize;
     loop {
-        to = put_start_tag(table, pool, links, runs, out, to, Row(element));
+        to = tags::put_start_tag(table, pool, links, runs, out, to, Row(element));
         depth += 1;
         let mut position = children::first(links, Row(element), false).0;
         loop {
@@ -49,58 +49,9 @@ pub fn put_element(
                     element = inner.0;
                     break;
                 }
-                to = tags::put_text(table, pool, links, runs, out, to, inner);
+                to = markup_values::put_text(table, pool, links, runs, out, to, inner);
                 position = children::next(links, inner, false).0;
             }
         }
     }
-}
-
-// The start tag of an element, with what it owns in row order.
-fn put_start_tag(
-    table: &[u32],
-    pool: &[u8],
-    links: &[u16],
-    runs: &[u16],
-    out: &mut [u8],
-    at: usize,
-    row: Row,
-) -> usize
-    requires { ⌜ Linked (now table) (now links) ⌝ }
-    requires { ⌜ row .0 < rowCount (now table) ⌝ }
-    requires { ⌜ Marked (now pool) (now links) (now runs) ⌝ }
-    requires { ⌜ Pooled (now table) (now pool) ⌝ }
-    ensures { λ r. ⌜ Put (now (out .entry)) at (startTag (qualifiedName (nodeAt (now (table .entry)) (now (pool .entry)) (row .0))) (writtenAttributes (nodes (now (table .entry)) (now (pool .entry))) (row .0))) r (now (out .exit)) ⌝ }
-{
-    let name = buffers::put_bytes(out, at, &[60]);
-    let owned = tags::put_row_name(table, pool, row, out, name);
-    let end = put_owned(table, pool, links, runs, out, owned, row);
-    buffers::put_bytes(out, end, &[62])
-}
-
-// The attributes and declarations of an element in row order.
-fn put_owned(
-    table: &[u32],
-    pool: &[u8],
-    links: &[u16],
-    runs: &[u16],
-    out: &mut [u8],
-    at: usize,
-    row: Row,
-) -> usize
-    requires { ⌜ Linked (now table) (now links) ⌝ }
-    requires { ⌜ row .0 < rowCount (now table) ⌝ }
-    requires { ⌜ Marked (now pool) (now links) (now runs) ⌝ }
-    requires { ⌜ Pooled (now table) (now pool) ⌝ }
-    ensures { λ r. ⌜ Put (now (out .entry)) at (gathered attributeMarkup (writtenAttributes (nodes (now (table .entry)) (now (pool .entry))) (row .0))) r (now (out .exit)) ⌝ }
-{
-    let element = row.0;
-    let mut to = at;
-    let mut position = children::first(links, Row(element), true).0;
-    while position > 0 {
-        let owned = notes::row_at(Position(position));
-        to = tags::put_attribute(table, pool, links, runs, out, to, owned);
-        position = children::next(links, owned, true).0;
-    }
-    to
 }

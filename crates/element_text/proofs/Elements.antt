@@ -3,34 +3,29 @@
 use Prim.Native.Nat.{ℕ, _+_, _-_, _*_, _≤_, _<_}
 use mathlib.Core.Path.{_≡_, refl, sym, ap, subst, _∙_}
 use mathlib.Core.Bool.{Bool, true, false}
-use mathlib.Core.List.{List, [], _++_}
+use mathlib.Core.List.{List, []}
 use mathlib.Core.Option.{none}
 use mathlib.Core.Logic.{_⊎_, inl, inr}
 use native.Mathlib.Omega.{arith}
-use native.Mathlib.Nat.{zero-add}
 use borrow.Author.Tests.{eqb-true, ltb-true, ltb-false}
 use lib.Dec.{eqb, ltb}
-use lib.ListN.{length, getD, set, take, replicate, length-replicate, length-set, getD-replicate, List·getD-eq-default}
+use lib.ListN.{length, getD, set, replicate, length-replicate, length-set, getD-replicate, List·getD-eq-default}
 use lib.Seq.{getD-set-same, getD-set-other}
 use mir.Val.{boolByte}
 use Rattle.rules.specs.Lists.{allOf, isOneOf}
 use Rattle.rules.specs.Table.{NONE, MOST-ROWS, MOST-BYTES, TYPE, PARENT, nodes, node, nodeAt, rowCount, word}
 use Rattle.rules.specs.Refusals.{checkRefusal}
-use Rattle.rules.specs.Outputs.{padded}
-use Rattle.rules.specs.declared.Refusal.{Refusal}
-use Rattle.rules.specs.declared.Written.{Written}
 use Rattle.rules.proofs.Lists.{by-cases, both-true}
 use Rattle.rules.proofs.Table.{length-nodes, node-nodes}
 use Rattle.rules.proofs.Accepted.{unrefused, few-rows, parent-falls, FieldsAccepted, fields-accepted}
 use Rattle.rows.proofs.Words.{parent-word}
 use Rattle.notes.specs.Notes.{NOTES, LATEST, FIRST, noteAt}
-use Rattle.buffers.specs.Writes.{cleared, Put}
-use Rattle.bundles.specs.Operations.{WriteOutcome, writeRefused, writeDone}
 use Rattle.runs.specs.Runs.{isPlain}
 use Rattle.children.specs.Children.{kinds, isUnder, firstWord, Listed}
 use Rattle.children.proofs.Linking.{kept-words}
-use Rattle.tags.specs.Marks.{PLAIN, Pooled}
-use Rattle.element_text.specs.Elements.{fitted, Clear, AtHand}
+use Rattle.markup_names.specs.Pooled.{Pooled}
+use Rattle.markup_values.specs.Marks.{PLAIN}
+use Rattle.element_text.specs.Elements.{Clear, AtHand}
 
 one-true : (b : Bool) → boolByte b ≡ 1 → b ≡ true
 one-true true e = refl
@@ -107,30 +102,3 @@ module _ (table pool : List ℕ) (accepted : checkRefusal table pool ≡ none) w
         marked = record { room = omega arith; plain = λ one. sym told ∙ one-true plain (sym first ∙ one); known = λ some. absurd (some refl) };
         pooled = pooled;
       }
-
--- What a call answers and leaves is an outcome.
-abbrev pub Leaves : WriteOutcome → Written → List ℕ → Type 0
-Leaves outcome answer out = (answer ≡ outcome .answer) × (out ≡ outcome .bytes)
-
--- A text that was put at the start of an output, by where it ends.
-module _ (out₀ text : List ℕ) (end : ℕ) (out : List ℕ) (put : Put out₀ 0 text end out) where
-  pub text-fits : end ≤ length out → {out′ : List ℕ} → out′ ≡ cleared out end → Leaves (fitted (length out₀) text) (Written.Done end) out′
-  unfolding fitted writeDone padded
-  text-fits h is =
-      by-cases (ltb (length out₀) (length text))
-      (λ t. let past = put .past (omega (arith, ltb-true (length out₀) (length text) t)) in absurd (omega (arith, past, put .size)))
-      (λ t.
-      let within = put .fits (omega (arith, ltb-false (length out₀) (length text) t)) in
-      let size : end ≡ length text = within .0 ∙ zero-add (length text) in
-      let front : take (length text) out ≡ text = ap (λ k. take k out) (sym size) ∙ within .1 in
-      rw t (ap Written.Done size, is ∙ rw (size, put .size) (ap (λ l. l ++ replicate (length out₀ - length text) 0) front)))
-
-  pub text-past : length out < end → {answer : Written} {out′ : List ℕ} → Leaves (writeRefused (length out) Refusal.TextRoom) answer out′ → Leaves (fitted (length out₀) text) answer out′
-  unfolding fitted
-  text-past h left =
-      by-cases (ltb (length out₀) (length text))
-      (λ t. rw (t, ← put .size) left)
-      (λ t.
-      let within = put .fits (omega (arith, ltb-false (length out₀) (length text) t)) in
-      let short = ltb-false (length out₀) (length text) t in
-      absurd (omega (arith, within .0, put .size, short)))

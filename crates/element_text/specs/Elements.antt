@@ -1,22 +1,15 @@
--- Writing the text of an element that is not refused: what is answered and left.
+-- The text of an element that is not refused, and what it is written from.
 use Prim.Native.Nat.{ℕ, _*_, _≤_, _<_}
 use mathlib.Core.Path.{_≡_}
 use mathlib.Core.List.{List}
 use lib.ListN.{length, replicate}
-use lib.Dec.{ltb}
 use Rattle.rules.specs.Table.{nodes, rowCount}
-use Rattle.rules.specs.Refusals.{refusedIf, unlessRefused}
-use Rattle.rules.specs.declared.Refusal.{Refusal}
 use Rattle.notes.specs.Notes.{NOTES}
-use Rattle.bundles.specs.Operations.{WriteOutcome, writeRefused, writeDone}
 use Rattle.markup.specs.Trees.{writtenTree}
 use Rattle.markup.specs.Markup.{markup}
-use Rattle.tags.specs.Marks.{Marked, Pooled}
-use Rattle.content.specs.Content.{Linked}
-
--- A text in an output of so many bytes, or 22.
-unfoldable pub fitted : ℕ → List ℕ → WriteOutcome
-fitted size text = unlessRefused (refusedIf (ltb size (length text)) Refusal.TextRoom) (writeRefused size) (writeDone size text)
+use Rattle.markup_names.specs.Pooled.{Pooled}
+use Rattle.markup_values.specs.Marks.{Marked}
+use Rattle.tags.specs.Links.{Linked}
 
 -- the text of element e
 unfoldable pub elementText : List ℕ → List ℕ → ℕ → List ℕ

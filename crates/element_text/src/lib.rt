@@ -7,10 +7,10 @@ ghost use lib.ListN.{length, set};
 ghost use mir.Val.{boolByte};
 ghost use Rattle.rules.specs.Table.{MOST-ROWS, MOST-BYTES, rowCount};
 ghost use Rattle.rules.specs.Refusals.{checkRefusal};
-ghost use Rattle.checker.specs.Lent.{FEW-ROWS};
-ghost use Rattle.tags.specs.Marks.{PLAIN};
-ghost use Rattle.element_text.specs.Elements.{fitted, elementText, Clear, AtHand};
-use rules::Refusal;
+ghost use Rattle.table_size.specs.Small.{FEW-ROWS};
+ghost use Rattle.markup_values.specs.Marks.{PLAIN};
+ghost use Rattle.text_room.specs.Room.{fitted};
+ghost use Rattle.element_text.specs.Elements.{elementText, Clear, AtHand};
 use rules::Row;
 use rules::Written;
 
@@ -65,7 +65,7 @@ fn set_plain(links: &mut [u16], plain: bool)
     requires { ⌜ 0 < length (now links) ⌝ }
     ensures { λ _. ⌜ now (links .exit) ≡ set (now (links .entry)) PLAIN (boolByte plain) ⌝ }
 {
-    links[tags::PLAIN] = plain as u16;
+    links[markup_values::PLAIN] = plain as u16;
 }
 
 // Whether the runs of the pool are measured: where one of its bytes is escaped, and the values of all rows together are so long
@@ -103,7 +103,7 @@ fn write_measured(
     ensures { λ r. ⌜ r ≡ fitted (length (now (out .entry))) (elementText (now (table .entry)) (now (pool .entry)) (row .0)) .answer ⌝ }
     ensures { λ _. ⌜ now (out .exit) ≡ fitted (length (now (out .entry))) (elementText (now (table .entry)) (now (pool .entry)) (row .0)) .bytes ⌝ }
 {
-    runs::measure_runs(pool, runs);
+    run_lengths::measure_runs(pool, runs);
     write_marked(table, pool, row, links, runs, out)
 }
 
@@ -121,9 +121,5 @@ fn write_marked(
     ensures { λ _. ⌜ now (out .exit) ≡ fitted (length (now (out .entry))) (elementText (now (table .entry)) (now (pool .entry)) (row .0)) .bytes ⌝ }
 {
     let end = content::put_element(table, pool, links, runs, out, 0, row);
-    if end > out.len() {
-        return bundles::refuse(out, Refusal::TextRoom);
-    }
-    buffers::clear_bytes(out, end);
-    Written::Done { bytes: end }
+    text_room::complete(out, end)
 }

@@ -27,7 +27,7 @@ use Rattle.rules.proofs.Table.{length-nodes}
 use Rattle.rules.proofs.Refusals.{not-refused, AllNone, all-none, lowest-none}
 use Rattle.rules.proofs.Accepted.{RowAccepted, Accepted, unrefused, few-rows, parent-falls, fields-encoded, namespace-accepted}
 use Rattle.rules.proofs.Scope.{above, scope-split}
-use Rattle.ancestors.proofs.Elements.{climb-enough}
+use Rattle.climbing.proofs.Elements.{climb-enough}
 use Rattle.markup.specs.Trees.{Content, element, Qualified, childRows, itemsOf, contentOf, qualifiedName, writtenAttributes, writtenTree, expandedName, meantAttributes, meantTree}
 use Rattle.markup.specs.Markup.{markup}
 use Rattle.markup.specs.Reader.{andThen, isLegal}

@@ -4,14 +4,16 @@ use Prim.Native.Nat.{ℕ, zero, suc, _+_, _-_, _*_, _≤_, _<_}
 use mathlib.Core.Path.{_≡_, refl, sym, _∙_, ap}
 use mathlib.Core.Bool.{Bool, true, false, cond, not, _&&_, _||_}
 use mathlib.Core.List.{List, [], _∷_, _++_}
-use native.Mathlib.Nat.{le-of-suc-le-suc, not-suc-le-zero, le-refl, add-zero}
+use mathlib.Core.Logic.{_⊎_, inl, inr}
+use native.Mathlib.Nat.{le-of-suc-le-suc, not-suc-le-zero}
+use native.Mathlib.Numerals.{add-one}
 use native.Mathlib.Omega.{arith}
 use lib.Bits.{bitOr}
 use lib.Dec.{eqb}
-use lib.ListN.{length, getD, set, take, drop, length-set, length-drop, drop-of-length-le}
-use lib.Seq.{take-nil, drop-cons, drop-drop, getD-drop, length-take-le, getD-set-same, getD-set-other}
+use lib.ListN.{length, getD, take, drop, length-drop, drop-of-length-le}
+use lib.Seq.{take-nil, drop-cons, drop-drop, getD-drop, length-take-le}
 use mir.Val.{boolByte}
-use borrow.Author.Tests.{eqb-true, eqb-false, ne-eqb}
+use borrow.Author.Tests.{ne-eqb}
 use Rattle.rules.specs.Lists.{allOf}
 use Rattle.rules.proofs.Lists.{by-cases, both-true, true-both, not-true}
 use Rattle.escapes.specs.Escapes.{isEscaped, escaped}
@@ -33,27 +35,33 @@ pub escaped-asked : (quoted : Bool) (b : ℕ) → isEscaped quoted b ≡ ((eqb b
 escaped-asked quoted b =
     escaped-is quoted b ∙ reordered (eqb b 38) (eqb b 60) (eqb b 62) (eqb b 34) (eqb b 13) (quoted && (eqb b 9 || eqb b 10))
 
--- No byte from 63 on is escaped.
-pub high-bare : (quoted : Bool) (b : ℕ) → 63 ≤ b → isEscaped quoted b ≡ false
-high-bare quoted b h =
-    nowhere quoted b
-    (rw (escaped-is true b, ne-eqb b 38 (λ k. omega arith), ne-eqb b 60 (λ k. omega arith), ne-eqb b 62 (λ k. omega arith), ne-eqb b 34 (λ k. omega arith), ne-eqb b 13 (λ k. omega arith), ne-eqb b 9 (λ k. omega arith), ne-eqb b 10 (λ k. omega arith))
-    refl)
+-- The same by the numbers of the bytes: some end a run everywhere, two in quotes alone.
+abbrev pub Everywhere : ℕ → Type 0
+Everywhere b = (b ≡ 13) ⊎ ((b ≡ 34) ⊎ ((b ≡ 38) ⊎ ((b ≡ 60) ⊎ (b ≡ 62))))
 
--- What is told for the one kind of values.
-pub by-kind : (b : ℕ) {quoted kind told : Bool} → quoted ≡ kind → told ≡ isEscaped kind b → told ≡ isEscaped quoted b
-by-kind b is e = e ∙ ap (λ (k : Bool). isEscaped k b) (sym is)
+pub ends-everywhere : (quoted : Bool) (b : ℕ) → Everywhere b → true ≡ isEscaped quoted b
+ends-everywhere quoted b (inl e) = rw (e, escaped-is quoted 13) refl
+ends-everywhere quoted b (inr (inl e)) = rw (e, escaped-is quoted 34) refl
+ends-everywhere quoted b (inr (inr (inl e))) = rw (e, escaped-is quoted 38) refl
+ends-everywhere quoted b (inr (inr (inr (inl e)))) = rw (e, escaped-is quoted 60) refl
+ends-everywhere quoted b (inr (inr (inr (inr e)))) = rw (e, escaped-is quoted 62) refl
 
--- The length of a run by its first byte.
-pub from-bare : (quoted : Bool) (b behind : ℕ) → isEscaped quoted b ≡ false → behind + 1 ≡ cond (isEscaped quoted b) 0 (behind + 1)
-from-bare quoted b behind e = rw e refl
+pub ends-in-quotes : (quoted : Bool) (b : ℕ) → (b ≡ 9) ⊎ (b ≡ 10) → quoted ≡ isEscaped quoted b
+ends-in-quotes true b (inl e) = rw (e, escaped-is true 9) refl
+ends-in-quotes true b (inr e) = rw (e, escaped-is true 10) refl
+ends-in-quotes false b (inl e) = rw (e, escaped-is false 9) refl
+ends-in-quotes false b (inr e) = rw (e, escaped-is false 10) refl
 
-pub from-escaped : (quoted : Bool) (b behind : ℕ) → isEscaped quoted b ≡ true → 0 ≡ cond (isEscaped quoted b) 0 (behind + 1)
-from-escaped quoted b behind e = rw e refl
+pub ends-nowhere : (quoted : Bool) (b : ℕ) → (Everywhere b → ⊥) → (b ≡ 9 → ⊥) → (b ≡ 10 → ⊥) → false ≡ isEscaped quoted b
+ends-nowhere quoted b other tab feed =
+    sym
+    (nowhere quoted b
+    (rw (escaped-is true b, ne-eqb b 38 (λ e. other (inr (inr (inl e)))), ne-eqb b 60 (λ e. other (inr (inr (inr (inl e))))), ne-eqb b 62 (λ e. other (inr (inr (inr (inr e))))), ne-eqb b 34 (λ e. other (inr (inl e))), ne-eqb b 13 (λ e. other (inl e)), ne-eqb b 9 tab, ne-eqb b 10 feed)
+    refl))
 
 module _ (quoted : Bool) where
   -- A run is what the value starts with.
-  run-part : (l : List ℕ) → take (length (run quoted l)) l ≡ run quoted l
+  pub run-part : (l : List ℕ) → take (length (run quoted l)) l ≡ run quoted l
   unfolding run
   run-part [] = refl
   run-part (b ∷ bs) =
@@ -61,7 +69,7 @@ module _ (quoted : Bool) where
       (λ e. rw e refl)
       (λ e. rw e (ap (λ (m : List ℕ). b ∷ m) (run-part bs)))
 
-  run-within : (l : List ℕ) → length (run quoted l) ≤ length l
+  pub run-within : (l : List ℕ) → length (run quoted l) ≤ length l
   unfolding run
   run-within [] = omega arith
   run-within (b ∷ bs) =
@@ -115,10 +123,6 @@ nothing-left value i quoted h = rw (drop-of-length-le value h) refl
 -- A length that is told is that of a run.
 pub length-told : {value runs : List ℕ} → Measured value runs → (quoted : Bool) (i : ℕ) {size : ℕ} → i < length value → size ≡ getD runs (2 * i + boolByte quoted) 0 → take size (drop i value) ≡ run quoted (drop i value)
 length-told {value} m quoted i h e = ap (λ (k : ℕ). take k (drop i value)) e ∙ m .lengths quoted i h
-
-pub bool-small : (b : Bool) → boolByte b < 2
-bool-small true = omega arith
-bool-small false = omega arith
 
 -- What is seen, gathered in a byte.
 pub seen-or : (all t : Bool) → bitOr (boolByte (not all)) (boolByte t) ≡ boolByte (not (all && not t))
@@ -195,88 +199,28 @@ part-measured bytes runs offset size m =
           ∙ ap (take (size - i)) (m .lengths quoted (offset + i) within) ∙ sym (run-taken quoted (size - i) rest));
     }
 
--- The lengths of the runs from byte i on are stored; `text` and `inside` are the first of them, in a text and in quotes.
-pub record Stored (bytes runs₀ runs : List ℕ) (i text inside : ℕ) : Type 0 where
-  pub within : i ≤ length bytes
-  pub room : length runs ≡ length runs₀
-  pub first : text ≡ length (run false (drop i bytes))
-  pub second : inside ≡ length (run true (drop i bytes))
-  pub stored : (quoted : Bool) (j : ℕ) → i ≤ j → j < length bytes → getD runs (2 * j + boolByte quoted) 0 ≡ length (run quoted (drop j bytes))
-
 -- Behind the bytes there is no run.
-run-none : (quoted : Bool) (bytes : List ℕ) → 0 ≡ length (run quoted (drop (length bytes) bytes))
+pub run-over : (quoted : Bool) (bytes : List ℕ) (k : ℕ) → length bytes ≤ k → 0 ≡ length (run quoted (drop k bytes))
 unfolding run
-run-none quoted bytes = rw (drop-of-length-le bytes (le-refl (length bytes))) refl
+run-over quoted bytes k h = rw (drop-of-length-le bytes h) refl
 
 -- A run that is one byte longer, or none.
-longer : (quoted : Bool) (bytes : List ℕ) (k : ℕ) {size size′ : ℕ} → k < length bytes → size ≡ length (run quoted (drop (suc k) bytes)) → size′ ≡ cond (isEscaped quoted (getD bytes k 0)) 0 (size + 1) → size′ ≡ length (run quoted (drop k bytes))
+pub longer : (quoted : Bool) (bytes : List ℕ) (k : ℕ) {size size′ : ℕ} → k < length bytes → size ≡ length (run quoted (drop (suc k) bytes)) → size′ ≡ cond (isEscaped quoted (getD bytes k 0)) 0 (size + 1) → size′ ≡ length (run quoted (drop k bytes))
 unfolding run
 longer quoted bytes k h behind is =
     is ∙ rw (drop-cons bytes k 0 h)
     (by-cases (isEscaped quoted (getD bytes k 0)) (λ e. rw e refl) (λ e. rw e (omega (arith, behind))))
 
-module _ (bytes runs₀ : List ℕ) where
-  pub stored-start : Stored bytes runs₀ runs₀ (length bytes) 0 0
-  stored-start =
-      record {
-        within = omega arith;
-        room = refl;
-        first = run-none false bytes;
-        second = run-none true bytes;
-        stored = λ quoted j from to. absurd (omega arith);
-      }
+-- Looking for the end of a run: it goes on over a byte, or ends.
+pub run-on : (quoted : Bool) (bytes : List ℕ) (k : ℕ) → k < length bytes → isEscaped quoted (getD bytes k 0) ≡ false → length (run quoted (drop (k + 1) bytes)) + 1 ≡ length (run quoted (drop k bytes))
+run-on quoted bytes k h e =
+    let next : length (run quoted (drop (k + 1) bytes)) ≡ length (run quoted (drop (suc k) bytes)) = ap (λ (n : ℕ). length (run quoted (drop n bytes))) (add-one k) in
+    longer quoted bytes k h next (rw e refl)
 
-  module _ {runs : List ℕ} {i text inside : ℕ} (s : Stored bytes runs₀ runs i text inside) where
-    pub stored-small : 0 < i → (text < length bytes) × (inside < length bytes)
-    stored-small h =
-        (omega (arith, s .within, s .first, run-within false (drop i bytes), length-drop i bytes), omega (arith, s .within, s .second, run-within true (drop i bytes), length-drop i bytes))
+pub run-ended : (quoted : Bool) (bytes : List ℕ) (k : ℕ) → k < length bytes → isEscaped quoted (getD bytes k 0) ≡ true → 0 ≡ length (run quoted (drop k bytes))
+run-ended quoted bytes k h e = longer quoted bytes k {size = length (run quoted (drop (suc k) bytes))} h refl (rw e refl)
 
-    pub stored-all : i ≡ 0 → 2 * length bytes ≤ length runs₀ → Measured bytes runs
-    stored-all z h =
-        record {
-          room = omega (arith, s .room);
-          lengths = λ quoted j to. ap (λ (k : ℕ). take k (drop j bytes)) (s .stored quoted j (omega arith) to) ∙ run-part quoted (drop j bytes);
-        }
-
-    -- one byte more
-    module _ (k : ℕ) (next : i ≡ suc k) (text′ inside′ : ℕ) (one : text′ ≡ cond (isEscaped false (getD bytes k 0)) 0 (text + 1)) (two : inside′ ≡ cond (isEscaped true (getD bytes k 0)) 0 (inside + 1)) where
-      here : k < length bytes
-      here = omega (arith, s .within)
-
-      behind : (quoted : Bool) → length (run quoted (drop i bytes)) ≡ length (run quoted (drop (suc k) bytes))
-      behind quoted = ap (λ (n : ℕ). length (run quoted (drop n bytes))) next
-
-      new-text : text′ ≡ length (run false (drop k bytes))
-      new-text = longer false bytes k here (s .first ∙ behind false) one
-
-      new-inside : inside′ ≡ length (run true (drop k bytes))
-      new-inside = longer true bytes k here (s .second ∙ behind true) two
-
-      pub stored-byte : 2 * length bytes ≤ length runs₀ → Stored bytes runs₀ (set (set runs (2 * k) text′) (2 * k + 1) inside′) k text′ inside′
-      stored-byte h =
-          let one-set = set runs (2 * k) text′ in
-          let size : length one-set ≡ length runs = length-set runs (2 * k) text′ in
-          record {
-            within = omega (arith, s .within);
-            room = length-set one-set (2 * k + 1) inside′ ∙ size ∙ s .room;
-            first = new-text;
-            second = new-inside;
-            stored = λ quoted j from to. at quoted j from to;
-          }
-        where
-          same : (quoted : Bool) → getD (set (set runs (2 * k) text′) (2 * k + 1) inside′) (2 * k + boolByte quoted) 0 ≡ length (run quoted (drop k bytes))
-          same true = getD-set-same (set runs (2 * k) text′) (2 * k + 1) inside′ 0 (omega (arith, length-set runs (2 * k) text′, s .room, here, h)) ∙ new-inside
-          same false =
-              getD-set-other (set runs (2 * k) text′) (2 * k + 1) (2 * k + 0) inside′ 0 (λ z. omega arith)
-              ∙ ap (λ (n : ℕ). getD (set runs (2 * k) text′) n 0) (add-zero (2 * k))
-              ∙ getD-set-same runs (2 * k) text′ 0 (omega (arith, s .room, here, h)) ∙ new-text
-
-          apart : (quoted : Bool) (j : ℕ) → (j ≡ k → ⊥) → getD (set (set runs (2 * k) text′) (2 * k + 1) inside′) (2 * j + boolByte quoted) 0 ≡ getD runs (2 * j + boolByte quoted) 0
-          apart true j other = getD-set-other (set runs (2 * k) text′) (2 * k + 1) (2 * j + 1) inside′ 0 (λ z. other (omega arith)) ∙ getD-set-other runs (2 * k) (2 * j + 1) text′ 0 (λ z. omega arith)
-          apart false j other = getD-set-other (set runs (2 * k) text′) (2 * k + 1) (2 * j + 0) inside′ 0 (λ z. omega arith) ∙ getD-set-other runs (2 * k) (2 * j + 0) text′ 0 (λ z. other (omega arith))
-
-          at : (quoted : Bool) (j : ℕ) → k ≤ j → j < length bytes → getD (set (set runs (2 * k) text′) (2 * k + 1) inside′) (2 * j + boolByte quoted) 0 ≡ length (run quoted (drop j bytes))
-          at quoted j from to =
-              by-cases (eqb j k)
-              (λ e. let is = eqb-true j k e in rw is (same quoted))
-              (λ e. let other = eqb-false j k e in apart quoted j other ∙ s .stored quoted j (omega arith) to)
+-- A length that is looked for is that of a run.
+pub length-looked : (quoted : Bool) (value : List ℕ) (i : ℕ) {size : ℕ} → size ≡ length (run quoted (drop i value)) → (take size (drop i value) ≡ run quoted (drop i value)) × (size ≤ length value - i)
+length-looked quoted value i e =
+    (ap (λ (k : ℕ). take k (drop i value)) e ∙ run-part quoted (drop i value), omega (arith, e, run-within quoted (drop i value), length-drop i value))

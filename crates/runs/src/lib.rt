@@ -1,78 +1,36 @@
 // How far a value in XML text stands for itself: its runs of bytes that are not escaped, in a text and in quotes.
 ghost use mathlib.Core.Path.{_≡_};
-ghost use mathlib.Core.Bool.{cond};
-ghost use Prim.Native.Nat.{_+_, _*_, _≤_, _<_};
-ghost use lib.ListN.{length, getD};
-ghost use mir.Val.{boolByte};
+ghost use Prim.Native.Nat.{_≤_};
+ghost use lib.ListN.{length, drop};
 ghost use Rattle.rules.specs.Lists.{allOf};
-ghost use Rattle.rules.specs.Table.{MOST-BYTES};
 ghost use Rattle.escapes.specs.Escapes.{isEscaped};
-ghost use Rattle.runs.specs.Runs.{isPlain, Measured};
+ghost use Rattle.runs.specs.Runs.{run, isPlain};
 
-// The length of the run from byte i on, in a text or in quotes.
-pub fn run_length(runs: &[u16], i: usize, quoted: bool) -> usize
-    requires { ⌜ 2 * i + 1 < length (now runs) ⌝ }
-    ensures { λ r. ⌜ (r ≡ getD (now (runs .entry)) (2 * i + boolByte quoted) 0) × (r < 65536) ⌝ }
-{
-    wide(runs[2 * i + place(quoted)])
-}
-
-// Where the length in a text, or that in quotes, stands among the two of a byte.
-fn place(quoted: bool) -> usize
-    ensures { λ r. ⌜ (r ≡ boolByte quoted) × (r < 2) ⌝ }
-{
-    quoted as usize
-}
-
-// A length as an index.
-fn wide(x: u16) -> usize
-    ensures { λ r. ⌜ (r ≡ x) × (r < 65536) ⌝ }
-{
-    x as usize
-}
-
-// The lengths of the two runs from each byte on, from the last to the first: that in a text, and behind it that in quotes.
-pub fn measure_runs(bytes: &[u8], runs: &mut [u16])
-    requires { ⌜ (length (now bytes) ≤ MOST-BYTES) × (2 * length (now bytes) ≤ length (now runs)) ⌝ }
-    ensures { λ _. ⌜ Measured (now (bytes .entry)) (now (runs .exit)) ⌝ }
-{
-    let mut i = bytes.len();
-    let mut text: u16 = 0;
-    let mut quoted: u16 = 0;
-    while i > 0 {
-        i -= 1;
-        text = run_from(bytes[i], text, false);
-        quoted = run_from(bytes[i], quoted, true);
-        runs[2 * i] = text;
-        runs[2 * i + 1] = quoted;
-    }
-}
-
-// The length of the run from a byte on, by that of the run behind it. Most bytes are passed by the first test: no byte from 63 on
-// is escaped.
-fn run_from(b: u8, behind: u16, quoted: bool) -> u16
-    requires { ⌜ behind < MOST-BYTES ⌝ }
-    ensures { λ r. ⌜ r ≡ cond (isEscaped quoted b) 0 (behind + 1) ⌝ }
-{
-    if b < 63 {
-        if is_escaped(b, quoted) {
-            return 0;
-        }
-    }
-    behind + 1
-}
-
-// The byte ends a run, by the same tests.
+// The byte ends a run: by one test of a bit, which is what the compiler makes of the numbers here.
 pub fn ends_run(b: u8, quoted: bool) -> bool
     ensures { λ r. ⌜ r ≡ isEscaped quoted b ⌝ }
 {
-    if b >= 63 {
-        return false;
+    match b {
+        13 | 34 | 38 | 60 | 62 => true,
+        9 => quoted,
+        10 => quoted,
+        _ => false,
     }
-    if quoted {
-        return is_escaped(b, true);
+}
+
+// The length of the run from byte i on, looked for.
+pub fn look_for_run(bytes: &[u8], i: usize, quoted: bool) -> usize
+    requires { ⌜ i ≤ length (now bytes) ⌝ }
+    ensures { λ r. ⌜ r ≡ length (run quoted (drop i (now (bytes .entry)))) ⌝ }
+{
+    let mut end = i;
+    while end < bytes.len() {
+        if ends_run(bytes[end], quoted) {
+            return end - i;
+        }
+        end += 1;
     }
-    is_escaped(b, false)
+    end - i
 }
 
 // No byte is escaped. The compiler makes a loop for each of the two kinds of values.
@@ -99,7 +57,7 @@ fn all_plain(bytes: &[u8], quoted: bool) -> bool
 }
 
 // The byte is escaped. Two bytes that differ in one bit stand together: the compiler tests them at once.
-fn is_escaped(b: u8, quoted: bool) -> bool
+pub fn is_escaped(b: u8, quoted: bool) -> bool
     ensures { λ r. ⌜ r ≡ isEscaped quoted b ⌝ }
 {
     ((b == 38) | (b == 34))

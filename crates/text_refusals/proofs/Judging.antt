@@ -1,15 +1,15 @@
--- What a row is refused for, from what the functions answer; and the arrays that they work in.
+-- What a row is refused for, from what the functions answer.
 -- Assumes nothing.
-use Prim.Native.Nat.{ℕ, zero, suc, _+_, _*_, _≤_, _<_}
-use mathlib.Core.Path.{_≡_, refl, sym, ap, _∙_, subst}
+use Prim.Native.Nat.{ℕ, _+_, _*_, _≤_, _<_}
+use mathlib.Core.Path.{_≡_, sym, ap, _∙_, subst}
 use mathlib.Core.Bool.{true, false, true≢false}
 use mathlib.Core.List.{List, [], _∷_}
 use mathlib.Core.Option.{none, some}
 use native.Mathlib.Omega.{arith}
 use lib.Dec.{eqb}
-use lib.ListN.{length, getD, set, replicate, length-replicate, length-set}
+use lib.ListN.{length, set, length-set}
 use lib.Seq.{getD-set-same, getD-set-other}
-use Rattle.rules.specs.Table.{MOST-ROWS, xmlPrefix, nodes, rowCount}
+use Rattle.rules.specs.Table.{xmlPrefix, nodes, rowCount}
 use Rattle.rules.specs.Refusals.{verdict, checkRefusal, checked}
 use Rattle.rules.specs.Lookups.{lookupRefusal}
 use Rattle.rules.specs.declared.Refusal.{Refusal}
@@ -18,13 +18,12 @@ use Rattle.rules.specs.declared.Row.{Row}
 use Rattle.rules.proofs.Table.{length-nodes, node-nodes}
 use Rattle.rules.proofs.Refusals.{verdict-accepted, verdict-refused}
 use Rattle.rows.specs.Reading.{rowOr}
-use Rattle.notes.specs.Notes.{NOTES}
-use Rattle.stacks.specs.Stacks.{TOPS, BELOW, NUMBERED, underAt}
+use Rattle.stacks.specs.Stacks.{BELOW, NUMBERED, underAt}
 use Rattle.scopes.specs.Standing.{Linked, Relinked}
 use Rattle.scopes.proofs.Changes.{standing-start}
 use Rattle.declarations.specs.Meant.{Meant}
 use Rattle.declarations.proofs.Meanings.{meant-relinked}
-use Rattle.beginning.specs.Ground.{Blank, Ground}
+use Rattle.beginning.specs.Ground.{Ground}
 use Rattle.markup.specs.Writing.{elementToWrite, textRefusal}
 use Rattle.unsettled.specs.Walkable.{Walkable}
 use Rattle.subtree_refusals.specs.Prepared.{Prepared}
@@ -34,25 +33,6 @@ use Rattle.text_refusals.specs.Judging.{Cleared, Writes, WrittenFrom}
 use Rattle.text_refusals.specs.declared.Judged.{Judged}
 use Rattle.element_text.proofs.Elements.{few}
 use Rattle.text_refusals.proofs.Outcome.{row-refused, element-left}
-
-zeros : (size i : ℕ) → _≡_ {A = ℕ} (getD (replicate size 0) i 0) 0
-zeros zero i = refl
-zeros (suc size) zero = refl
-zeros (suc size) (suc i) = zeros size i
-
--- Zeros are cleared arrays.
-pub zeros-blank : (table : List ℕ) (a : ℕ) → (rowCount table ≤ MOST-ROWS → NOTES * rowCount table ≤ a) → Blank table (replicate a 0)
-zeros-blank table a room = record { cleared = ap (λ k. replicate k 0) (sym (length-replicate a 0)); records = λ small. rw length-replicate (room small) }
-
-pub zeros-cleared :
-    (table : List ℕ) (b c : ℕ) → (rowCount table ≤ MOST-ROWS → (TOPS * (3 * rowCount table) + TOPS ≤ b) × (4 * rowCount table + 4 ≤ c)) → Cleared table (replicate b 0) (replicate c 0)
-zeros-cleared table b c room =
-    record {
-      unstacked = zeros b;
-      unplaced = zeros c;
-      topped = λ small. rw length-replicate (room small .0);
-      placed = λ small. rw length-replicate (room small .1);
-    }
 
 -- The check and the number of xml.
 module _ {table pool notes tops path : List ℕ} {r x : ℕ} (lent : Cleared table tops path) (ground : Ground table pool r notes x (120 ∷ 109 ∷ 108 ∷ [])) where

@@ -15,7 +15,8 @@ use Rattle.rules.proofs.Refusals.{first-alone}
 use Rattle.bundles.specs.Operations.{writeRefused, writeDone}
 use Rattle.markup.specs.Writing.{elementToWrite, subtreeRefusal, textOf, tableText, textRefusal, textWritten}
 use Rattle.row_refusals.specs.Refused.{rowRefusal}
-use Rattle.element_text.specs.Elements.{fitted, elementText}
+use Rattle.text_room.specs.Room.{fitted}
+use Rattle.element_text.specs.Elements.{elementText}
 
 -- What the first two are refused for is not changed by a third.
 two-refused : (a b c : Option Refusal) (x : Refusal) → firstRefusal (a ∷ b ∷ []) ≡ some x → firstRefusal (a ∷ b ∷ c ∷ []) ≡ some x

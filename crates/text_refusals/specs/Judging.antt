@@ -10,7 +10,8 @@ use Rattle.rules.specs.declared.Refusal.{Refusal}
 use Rattle.rules.specs.declared.Row.{Row}
 use Rattle.stacks.specs.Stacks.{TOPS}
 use Rattle.markup.specs.Writing.{textRefusal, textWritten}
-use Rattle.element_text.specs.Elements.{fitted, elementText}
+use Rattle.text_room.specs.Room.{fitted}
+use Rattle.element_text.specs.Elements.{elementText}
 use Rattle.text_refusals.specs.declared.Judged.{Judged}
 
 -- The arrays of a scope are cleared, and there is room for the rows and the numbers of their names.

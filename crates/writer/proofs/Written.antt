@@ -8,8 +8,9 @@ use Rattle.rules.specs.declared.Refusal.{Refusal}
 use Rattle.rules.specs.declared.Written.{Written}
 use Rattle.bundles.specs.Operations.{writeRefused}
 use Rattle.markup.specs.Writing.{textRefusal, textWritten}
-use Rattle.element_text.specs.Elements.{fitted, elementText}
-use Rattle.element_text.proofs.Elements.{Leaves}
+use Rattle.text_room.specs.Room.{fitted}
+use Rattle.element_text.specs.Elements.{elementText}
+use Rattle.text_room.proofs.Room.{Leaves}
 use Rattle.text_refusals.specs.Judging.{Writes}
 
 pub refused-written :

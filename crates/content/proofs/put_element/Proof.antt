@@ -6,7 +6,7 @@ use native.Mathlib.Omega.{arith}
 use lib.ListN.{length}
 use Rattle.rules.specs.Lists.{gathered}
 use Rattle.markup.specs.Markup.{markup}
-use Rattle.content.specs.Content.{Linked}
+use Rattle.tags.specs.Links.{Linked}
 use Rattle.content.proofs.Rest.{whole, tree, rest, opened, left-none, Ready, ready-start, ready-deep, ready-next, ready-length, Inside, inside-start, rest-less, through, inside-end, inside-out, out-less, inside-row, inside-in, in-same, inside-over, over-less}
 use Rattle.content.proofs.put_element.Statement.{statement}
 use Rattle.content.proofs.put_element.Tie as tie

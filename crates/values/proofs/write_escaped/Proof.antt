@@ -1,6 +1,5 @@
 -- `values::write_escaped` meets its contract.
 -- Assumes nothing.
-use native.Mathlib.Omega.{arith}
 use borrow.Author.Needs.{needs}
 use Rattle.values.proofs.write_escaped.Statement.{statement}
 use Rattle.values.proofs.write_escaped.Tie as tie
@@ -14,23 +13,14 @@ same-length c = search needs
 returns : tie.Need-returns
 returns c = search needs
 
-write-each-requires : tie.Need-write-each-requires
-write-each-requires c κs = search needs
+write-runs-requires : tie.Need-write-runs-requires
+write-runs-requires c κs = search needs
 
 same-length-2 : tie.Need-same-length-2
 same-length-2 c = search needs
 
 returns-2 : tie.Need-returns-2
 returns-2 c = search needs
-
-write-runs-requires : tie.Need-write-runs-requires
-write-runs-requires c κs = let s = c .before .before .before .before .before .before .before in (s .pre .0, omega arith, s .pre .1 (c .before .if2 .left))
-
-same-length-3 : tie.Need-same-length-3
-same-length-3 c = search needs
-
-returns-3 : tie.Need-returns-3
-returns-3 c = search needs
 
 pub write-escaped-spec : {M : Type 1} → statement M
 write-escaped-spec =
@@ -39,9 +29,6 @@ write-escaped-spec =
     put-each-requires
     same-length
     returns
-    write-each-requires
-    same-length-2
-    returns-2
     write-runs-requires
-    same-length-3
-    returns-3)
+    same-length-2
+    returns-2)
