@@ -18,14 +18,14 @@ pub fn uri_of_prefix(bundle: &[u8], row: Row, prefix: &[u8]) -> Bound
 pub fn prefix_of_uri(bundle: &[u8], row: Row, uri: &[u8]) -> Located
     ensures { λ r. ⌜ r ≡ bundlePrefixOfUri (now (bundle .entry)) (row .0) (now (uri .entry)) ⌝ }
 {
-    resolver::without_built_ins(lookup(bundle, row, Question::PrefixOfUri, uri))
+    located::without_built_ins(lookup(bundle, row, Question::PrefixOfUri, uri))
 }
 
 // The default URI at a row.
 pub fn default_uri(bundle: &[u8], row: Row) -> Located
     ensures { λ r. ⌜ r ≡ bundleDefaultUri (now (bundle .entry)) (row .0) ⌝ }
 {
-    resolver::without_built_ins(lookup(bundle, row, Question::UriOfPrefix, b""))
+    located::without_built_ins(lookup(bundle, row, Question::UriOfPrefix, b""))
 }
 
 // The in-scope URI of a prefix at a row: by declarations alone.

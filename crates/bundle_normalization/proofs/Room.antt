@@ -6,7 +6,7 @@ use mathlib.Core.List.{List}
 use native.Mathlib.Omega.{arith}
 use lib.ListN.{length, drop, replicate, length-drop, length-replicate}
 use Rattle.rules.specs.Table.{WIDTH, MOST-ROWS}
-use Rattle.checker.specs.Lent.{FEW-ROWS, FEW-BYTES}
+use Rattle.table_size.specs.Small.{FEW-ROWS, FEW-BYTES}
 use Rattle.normal_form.specs.Result.{RoomFor}
 use Rattle.bundles.specs.Bundles.{poolStart}
 use Rattle.bundles.specs.Opening.{Opens}

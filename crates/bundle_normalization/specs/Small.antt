@@ -2,7 +2,7 @@
 use Prim.Native.Nat.{ℕ, _+_, _*_, _≤_}
 use mathlib.Core.List.{List}
 use lib.ListN.{length}
-use Rattle.checker.specs.Lent.{FEW-ROWS, FEW-BYTES}
+use Rattle.table_size.specs.Small.{FEW-ROWS, FEW-BYTES}
 use Rattle.bundles.specs.Bundles.{HEADER, bundlePoolLength}
 use Rattle.bundles.specs.Opening.{NamesAtMost}
 

@@ -15,10 +15,10 @@ pub fn normalize(bundle: &[u8], out: &mut [u8]) -> Written
     ensures { λ r. ⌜ r ≡ bundleNormalized (now (bundle .entry)) (length (now (out .entry))) .answer ⌝ }
     ensures { λ _. ⌜ now (out .exit) ≡ bundleNormalized (now (bundle .entry)) (length (now (out .entry))) .bytes ⌝ }
 {
-    if bundle_opening::rows_named(bundle) > checker::FEW_ROWS {
+    if small_bundles::has_many_rows(bundle) {
         return normalize_any(bundle, out);
     }
-    if bundle_opening::bytes_named(bundle) > checker::FEW_BYTES {
+    if small_bundles::has_long_pool(bundle) {
         return normalize_any(bundle, out);
     }
     normalize_few(bundle, out)
@@ -32,10 +32,9 @@ fn normalize_any(bundle: &[u8], out: &mut [u8]) -> Written
     let mut words = [0; WORDS];
     match bundle_opening::read_rows(bundle, &mut words) {
         Opened::Rows(n) => {
-            let pool = bundle_opening::pool(bundle, n);
             let mut work = [0; normal_form::WORK];
-            buffers::copy_bytes(pool, &mut work);
-            let made = in_place::normalize(&mut words, &mut work, n, pool.len());
+            let bytes = bundle_parts::copy_pool(bundle, n, &mut work);
+            let made = in_place::normalize(&mut words, &mut work, n, bytes);
             result_bundle::write_made(made, &words, &work, out)
         }
         Opened::Refused(x) => bundles::refuse(out, x),
@@ -51,10 +50,9 @@ fn normalize_few(bundle: &[u8], out: &mut [u8]) -> Written
     let mut words = [0; in_place::FEW_WORDS];
     match bundle_opening::read_rows(bundle, &mut words) {
         Opened::Rows(n) => {
-            let pool = bundle_opening::pool(bundle, n);
             let mut work = [0; in_place::FEW_WORK];
-            buffers::copy_bytes(pool, &mut work);
-            let made = in_place::normalize_few(&mut words, &mut work, n, pool.len());
+            let bytes = bundle_parts::copy_pool(bundle, n, &mut work);
+            let made = in_place::normalize_few(&mut words, &mut work, n, bytes);
             result_bundle::write_made(made, &words, &work, out)
         }
         Opened::Refused(x) => bundles::refuse(out, x),

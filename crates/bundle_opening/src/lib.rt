@@ -1,12 +1,11 @@
-// Opening a session bundle: its refusals, its rows as words, and its pool. A table for the rows is made of zeros, which are
+// Opening a session bundle: its refusals, and its rows as words. A table for the rows is made of zeros, which are
 // filled in quickest; only what was read into it is looked at.
 ghost use mathlib.Core.Path.{_≡_};
 ghost use mathlib.Core.Option.{some};
-ghost use Prim.Native.Nat.{ℕ, _≤_, _<_};
-ghost use lib.ListN.{length, drop};
+ghost use Prim.Native.Nat.{ℕ};
 ghost use Rattle.rules.specs.Refusals.{verdict};
 ghost use Rattle.rules.specs.declared.Refusal.{Refusal};
-ghost use Rattle.bundles.specs.Bundles.{HEADER, poolStart, bundleRows, bundlePoolLength, wrongMark, otherVersion, badLengths};
+ghost use Rattle.bundles.specs.Bundles.{wrongMark, otherVersion, badLengths};
 ghost use Rattle.bundles.specs.Opening.{openingRefusal, HasRoom, Opens};
 ghost use Rattle.bundle_opening.specs.declared.Opened.{Opened};
 use bundles::HEADER;
@@ -29,40 +28,12 @@ pub fn read_rows(bundle: &[u8], table: &mut [u32]) -> Opened
 {
     match judge(bundle) {
         Checked::Accepted => {
-            let rows = row_count(bundle);
+            let rows = bundle_parts::row_count(bundle);
             little_endian::read_words(&bundle[HEADER..], table, rules::WIDTH * rows);
             Opened::Rows(rows)
         }
         Checked::Refused(x) => Opened::Refused(x),
     }
-}
-
-// The row count that a bundle names, 0 where its bytes end before the rows.
-pub fn rows_named(bundle: &[u8]) -> usize
-    ensures { λ r. ⌜ (HEADER ≤ length (now (bundle .entry)) → r ≡ bundleRows (now (bundle .entry))) ⌝ }
-{
-    if bundle.len() < HEADER {
-        return 0;
-    }
-    row_count(bundle)
-}
-
-// The pool length that a bundle names, 0 where its bytes end before the rows.
-pub fn bytes_named(bundle: &[u8]) -> usize
-    ensures { λ r. ⌜ (HEADER ≤ length (now (bundle .entry)) → r ≡ bundlePoolLength (now (bundle .entry))) ⌝ }
-{
-    if bundle.len() < HEADER {
-        return 0;
-    }
-    pool_length(bundle)
-}
-
-// The pool of a bundle of so many rows.
-pub fn pool(bundle: &[u8], rows: usize) -> &[u8]
-    requires { ⌜ poolStart rows ≤ length (now bundle) ⌝ }
-    ensures { λ r. ⌜ now r ≡ drop (poolStart rows) (now (bundle .entry)) ⌝ }
-{
-    &bundle[HEADER + ROW_BYTES * rows..]
 }
 
 // Refusals 30 to 32, and 1.
@@ -78,10 +49,10 @@ fn judge(bundle: &[u8]) -> Checked
     if bad_lengths(bundle) {
         return Checked::Refused(Refusal::Lengths);
     }
-    if row_count(bundle) > rules::MOST_ROWS {
+    if bundle_parts::row_count(bundle) > rules::MOST_ROWS {
         return Checked::Refused(Refusal::Size);
     }
-    if pool_length(bundle) > rules::MOST_BYTES {
+    if bundle_parts::pool_length(bundle) > rules::MOST_BYTES {
         return Checked::Refused(Refusal::Size);
     }
     Checked::Accepted
@@ -117,28 +88,6 @@ fn bad_lengths(bundle: &[u8]) -> bool
     if bundle[5] != 0 {
         return true;
     }
-    bundle.len() != HEADER + ROW_BYTES * row_count(bundle) + pool_length(bundle)
-}
-
-// The row count that a bundle names.
-fn row_count(bundle: &[u8]) -> usize
-    requires { ⌜ HEADER ≤ length (now bundle) ⌝ }
-    ensures { λ r. ⌜ (r ≡ bundleRows (now (bundle .entry))) × (r < 4294967296) ⌝ }
-{
-    wide(little_endian::short(bundle, 6))
-}
-
-// The pool length that a bundle names.
-fn pool_length(bundle: &[u8]) -> usize
-    requires { ⌜ HEADER ≤ length (now bundle) ⌝ }
-    ensures { λ r. ⌜ (r ≡ bundlePoolLength (now (bundle .entry))) × (r < 4294967296) ⌝ }
-{
-    wide(little_endian::word(bundle, 8))
-}
-
-// A number of the bundle as a length.
-fn wide(x: u32) -> usize
-    ensures { λ r. ⌜ (r ≡ x) × (r < 4294967296) ⌝ }
-{
-    x as usize
+    bundle.len()
+        != HEADER + ROW_BYTES * bundle_parts::row_count(bundle) + bundle_parts::pool_length(bundle)
 }

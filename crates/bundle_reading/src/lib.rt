@@ -1,7 +1,7 @@
 // The table and the pool of a session bundle, as copies.
 ghost use mathlib.Core.Path.{_≡_};
 ghost use lib.ListN.{length};
-ghost use Rattle.checker.specs.Lent.{FEW-ROWS};
+ghost use Rattle.table_size.specs.Small.{FEW-ROWS};
 ghost use Rattle.bundles.specs.Operations.{bundleRead};
 ghost use Rattle.bundles.specs.Opening.{NamesAtMost};
 use bundle_opening::Opened;
@@ -10,7 +10,7 @@ use rules::Filled;
 // The words of the largest table, and of a small one.
 const WORDS: usize = rules::WIDTH * rules::MOST_ROWS;
 
-const FEW_WORDS: usize = rules::WIDTH * checker::FEW_ROWS;
+const FEW_WORDS: usize = rules::WIDTH * table_size::FEW_ROWS;
 
 // Reads a bundle into a table and a pool. Success answers the rows and bytes that it takes; the rest of both outputs is zero,
 // and all of them after a refusal.
@@ -19,10 +19,10 @@ pub fn read(bundle: &[u8], out_table: &mut [u32], out_pool: &mut [u8]) -> Filled
     ensures { λ _. ⌜ now («out_table» .exit) ≡ bundleRead (now (bundle .entry)) (length (now («out_table» .entry))) (length (now («out_pool» .entry))) .table ⌝ }
     ensures { λ _. ⌜ now («out_pool» .exit) ≡ bundleRead (now (bundle .entry)) (length (now («out_table» .entry))) (length (now («out_pool» .entry))) .pool ⌝ }
 {
-    if bundle_opening::rows_named(bundle) > checker::FEW_ROWS {
+    if small_bundles::has_many_rows(bundle) {
         return read_any(bundle, out_table, out_pool);
     }
-    if bundle_opening::bytes_named(bundle) > checker::FEW_BYTES {
+    if small_bundles::has_long_pool(bundle) {
         return read_any(bundle, out_table, out_pool);
     }
     read_few(bundle, out_table, out_pool)
@@ -38,7 +38,7 @@ fn read_any(bundle: &[u8], out_table: &mut [u32], out_pool: &mut [u8]) -> Filled
     match bundle_opening::read_rows(bundle, &mut words) {
         Opened::Rows(n) => {
             let table = &words[..rules::WIDTH * n];
-            let pool = bundle_opening::pool(bundle, n);
+            let pool = bundle_parts::pool(bundle, n);
             table_reading::read(
                 checker::check(table, pool),
                 table,
@@ -62,7 +62,7 @@ fn read_few(bundle: &[u8], out_table: &mut [u32], out_pool: &mut [u8]) -> Filled
     match bundle_opening::read_rows(bundle, &mut words) {
         Opened::Rows(n) => {
             let table = &words[..rules::WIDTH * n];
-            let pool = bundle_opening::pool(bundle, n);
+            let pool = bundle_parts::pool(bundle, n);
             table_reading::read(
                 checker::check_small(table, pool),
                 table,

@@ -2,7 +2,7 @@
 // bundle of few rows and a short pool.
 ghost use mathlib.Core.Path.{_≡_};
 ghost use lib.ListN.{length};
-ghost use Rattle.checker.specs.Lent.{FEW-ROWS};
+ghost use Rattle.table_size.specs.Small.{FEW-ROWS};
 ghost use Rattle.bundles.specs.Opening.{NamesAtMost};
 ghost use Rattle.markup.specs.Writing.{bundleText};
 use bundle_opening::Opened;
@@ -12,7 +12,7 @@ use rules::Written;
 // The words of the largest table, and of a small one.
 const WORDS: usize = rules::WIDTH * rules::MOST_ROWS;
 
-const FEW_WORDS: usize = rules::WIDTH * checker::FEW_ROWS;
+const FEW_WORDS: usize = rules::WIDTH * table_size::FEW_ROWS;
 
 // Writes the XML text of an element, or of a document's element. Success answers the bytes that it takes; the rest of the output
 // is zero, and all of it after a refusal.
@@ -20,10 +20,10 @@ pub fn write_xml(bundle: &[u8], row: Row, out: &mut [u8]) -> Written
     ensures { λ r. ⌜ r ≡ bundleText (now (bundle .entry)) (row .0) (length (now (out .entry))) .answer ⌝ }
     ensures { λ _. ⌜ now (out .exit) ≡ bundleText (now (bundle .entry)) (row .0) (length (now (out .entry))) .bytes ⌝ }
 {
-    if bundle_opening::rows_named(bundle) > checker::FEW_ROWS {
+    if small_bundles::has_many_rows(bundle) {
         return write_any(bundle, row, out);
     }
-    if bundle_opening::bytes_named(bundle) > checker::FEW_BYTES {
+    if small_bundles::has_long_pool(bundle) {
         return write_any(bundle, row, out);
     }
     write_few(bundle, row, out)
@@ -35,11 +35,11 @@ fn write_any(bundle: &[u8], row: Row, out: &mut [u8]) -> Written
     ensures { λ r. ⌜ r ≡ bundleText (now (bundle .entry)) (row .0) (length (now (out .entry))) .answer ⌝ }
     ensures { λ _. ⌜ now (out .exit) ≡ bundleText (now (bundle .entry)) (row .0) (length (now (out .entry))) .bytes ⌝ }
 {
-    let mut table = [0; WORDS];
-    match bundle_opening::read_rows(bundle, &mut table) {
+    let mut words = [0; WORDS];
+    match bundle_opening::read_rows(bundle, &mut words) {
         Opened::Rows(n) => {
-            let pool = bundle_opening::pool(bundle, n);
-            writer::write(&table[..rules::WIDTH * n], pool, row, out)
+            let pool = bundle_parts::pool(bundle, n);
+            writer::write(bundle_parts::table(&words, n), pool, row, out)
         }
         Opened::Refused(x) => bundles::refuse(out, x),
     }
@@ -54,8 +54,8 @@ fn write_few(bundle: &[u8], row: Row, out: &mut [u8]) -> Written
     let mut words = [0; FEW_WORDS];
     match bundle_opening::read_rows(bundle, &mut words) {
         Opened::Rows(n) => {
-            let pool = bundle_opening::pool(bundle, n);
-            writer::write_few(&words[..rules::WIDTH * n], pool, row, out)
+            let pool = bundle_parts::pool(bundle, n);
+            writer::write_few(bundle_parts::table(&words, n), pool, row, out)
         }
         Opened::Refused(x) => bundles::refuse(out, x),
     }

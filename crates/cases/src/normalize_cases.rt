@@ -38,7 +38,7 @@ fn least(numbers: &[u8], index: usize, most: usize) -> usize
 }
 
 fn run(table: &[u32], pool: &[u8], out_table: &mut [u32], out_pool: &mut [u8]) {
-    let given = answers::filled(normalizer::normalize(table, pool, out_table, out_pool));
+    let given = output_answers::filled(normalizer::normalize(table, pool, out_table, out_pool));
     let number = given.number;
     texts::refusal(texts::REFUSAL, texts::ROW, texts::WORD, number);
     normalized(

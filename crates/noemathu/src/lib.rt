@@ -2,12 +2,13 @@
 // answer.
 ghost use mathlib.Core.Path.{_≡_};
 ghost use lib.ListN.{length};
-ghost use Rattle.answers.specs.Given.{checkGiven, locatedGiven, boundGiven, filledGiven, writtenGiven};
+ghost use Rattle.answers.specs.Given.{checkGiven, locatedGiven, boundGiven};
+ghost use Rattle.output_answers.specs.Given.{filledGiven, writtenGiven};
 ghost use Rattle.bundles.specs.Operations.{bundleRead, tableWritten, bundleChecked, bundleUriOfPrefix, bundlePrefixOfUri, bundleDefaultUri, bundleInScopeUri, bundleInScopePrefix, bundleNormalized};
 ghost use Rattle.markup.specs.Writing.{bundleText};
 use answers::Found;
-use answers::Sizes;
-use answers::Used;
+use output_answers::Sizes;
+use output_answers::Used;
 use refusal_numbers::Number;
 use rules::Row;
 
@@ -66,7 +67,7 @@ pub extern "C" fn noemathu_normalize(bundle: &[u8], out: &mut [u8]) -> Used
     ensures { λ r. ⌜ r ≡ writtenGiven (bundleNormalized (now (bundle .entry)) (length (now (out .entry))) .answer) ⌝ }
     ensures { λ _. ⌜ now (out .exit) ≡ bundleNormalized (now (bundle .entry)) (length (now (out .entry))) .bytes ⌝ }
 {
-    answers::written(bundle_normalization::normalize(bundle, out))
+    output_answers::written(bundle_normalization::normalize(bundle, out))
 }
 
 // Writes the XML text of an element, or of a document's element, and of all that it holds. Success answers the bytes that it
@@ -76,7 +77,7 @@ pub extern "C" fn noemathu_write_xml(bundle: &[u8], row: u32, out: &mut [u8]) ->
     ensures { λ r. ⌜ r ≡ writtenGiven (bundleText (now (bundle .entry)) row (length (now (out .entry))) .answer) ⌝ }
     ensures { λ _. ⌜ now (out .exit) ≡ bundleText (now (bundle .entry)) row (length (now (out .entry))) .bytes ⌝ }
 {
-    answers::written(bundle_text::write_xml(bundle, Row(row), out))
+    output_answers::written(bundle_text::write_xml(bundle, Row(row), out))
 }
 
 // Reads a bundle into a table and a pool. Success answers the rows and bytes that it takes; the rest of both outputs is zero,
@@ -87,7 +88,7 @@ pub extern "C" fn noemathu_read(bundle: &[u8], out_table: &mut [u32], out_pool: 
     ensures { λ _. ⌜ now («out_table» .exit) ≡ bundleRead (now (bundle .entry)) (length (now («out_table» .entry))) (length (now («out_pool» .entry))) .table ⌝ }
     ensures { λ _. ⌜ now («out_pool» .exit) ≡ bundleRead (now (bundle .entry)) (length (now («out_table» .entry))) (length (now («out_pool» .entry))) .pool ⌝ }
 {
-    answers::filled(bundle_reading::read(bundle, out_table, out_pool))
+    output_answers::filled(bundle_reading::read(bundle, out_table, out_pool))
 }
 
 // Writes a table and its pool as a bundle. Success answers the bytes that it takes; the rest of the output is zero, and all of
@@ -97,5 +98,5 @@ pub extern "C" fn noemathu_write(table: &[u32], pool: &[u8], out: &mut [u8]) -> 
     ensures { λ r. ⌜ r ≡ writtenGiven (tableWritten (now (table .entry)) (now (pool .entry)) (length (now (out .entry))) .answer) ⌝ }
     ensures { λ _. ⌜ now (out .exit) ≡ tableWritten (now (table .entry)) (now (pool .entry)) (length (now (out .entry))) .bytes ⌝ }
 {
-    answers::written(table_writing::write(table, pool, out))
+    output_answers::written(table_writing::write(table, pool, out))
 }

@@ -9,10 +9,10 @@ pub fn write(table: &[u32], pool: &[u8], out: &mut [u8]) -> Written
     ensures { λ r. ⌜ r ≡ tableWritten (now (table .entry)) (now (pool .entry)) (length (now (out .entry))) .answer ⌝ }
     ensures { λ _. ⌜ now (out .exit) ≡ tableWritten (now (table .entry)) (now (pool .entry)) (length (now (out .entry))) .bytes ⌝ }
 {
-    if rows::row_count(table) > checker::FEW_ROWS {
+    if table_size::has_many_rows(table) {
         return write_any(table, pool, out);
     }
-    if pool.len() > checker::FEW_BYTES {
+    if pool.len() > table_size::FEW_BYTES {
         return write_any(table, pool, out);
     }
     bundle_encoding::write_checked(checker::check_small(table, pool), table, pool, out)

@@ -1,10 +1,11 @@
 -- `bundle_check::check_any` meets its contract.
 -- Assumes nothing.
-use mathlib.Core.Path.{sym, _∙_}
-use native.Mathlib.Omega.{arith}
+use Prim.Native.Nat.{ℕ}
+use mathlib.Core.Path.{sym, ap, _∙_}
+use mathlib.Core.List.{List}
 use denote.Ref.{now}
-use lib.Seq.{length-take-le}
 use Rattle.rules.specs.Table.{MOST-ROWS}
+use Rattle.rules.specs.Refusals.{checked}
 use Rattle.bundles.specs.Opening.{Opens}
 use Rattle.bundles.proofs.Opening.{new-room}
 use Rattle.bundles.proofs.Over.{check-not-open, check-open}
@@ -23,19 +24,10 @@ check-any-spec =
     (λ c. search needs)
     (λ c κs. new-room (c .before .before .args .bundle .now) MOST-ROWS 0 (λ header few. few))
     (λ c. search needs)
-    (λ c.
-    let few = opened c .few in
-    omega arith)
-    (λ c.
-    let room = opened c .room in
-    omega arith)
-    (λ c.
-    let room = opened (c .before) .room in
-    sym (length-take-le _ _ (omega arith)))
-    (λ c κs.
-    let inside = opened (c .before) .inside in
-    omega arith)
+    (λ c. search needs)
+    (λ c κs. opened (c .before) .room)
+    (λ c κs. opened (c .before .before) .inside)
     (λ c κs. search needs)
     (λ c. search needs)
-    (λ c. c .check .ensures ∙ check-open _ _ _ (opened (c .before .before .before)) _ (c .before .pool .ensures))
+    (λ c. c .check .ensures ∙ ap (λ (t : List ℕ). checked t (now (c .before .pool .result))) (c .before .before .table .ensures) ∙ check-open _ _ _ (opened (c .before .before .before .before)) _ (c .before .pool .ensures))
     (λ c. sym (check-not-open _ _ (c .before .before .before .before .read-rows .ensures .1 _ (c .before .x .given .1)))))

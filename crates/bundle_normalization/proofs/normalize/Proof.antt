@@ -1,8 +1,6 @@
 -- `bundle_normalization::normalize` meets its contract.
 -- Assumes nothing.
-use native.Mathlib.Omega.{arith}
 use borrow.Author.Needs.{needs}
-use Rattle.bundles.proofs.Opening.{named}
 use Rattle.bundle_normalization.proofs.normalize.Statement.{statement}
 use Rattle.bundle_normalization.proofs.normalize.Tie as tie
 
@@ -20,11 +18,8 @@ normalize-spec =
     (λ c. c .before .before .normalize-any2 .ensures)
     (λ c κs.
     record {
-      few = named (c .before .before .before .before .before .before .before .args .bundle .now) _ _ (c .before .before .before .before .rows-named .ensures) (c .before .before .before .if1 .left);
-      short = λ header.
-          let is = c .before .before .bytes-named .ensures header in
-          let small = c .before .if2 .left in
-          omega arith;
+      few = c .before .before .before .before .has-many-rows .ensures (c .before .before .before .if1 .left);
+      short = c .before .before .has-long-pool .ensures (c .before .if2 .left);
     })
     (λ c. search needs)
     (λ c. c .before .before .normalize-few .ensures))

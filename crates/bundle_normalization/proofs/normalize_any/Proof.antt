@@ -1,13 +1,14 @@
 -- `bundle_normalization::normalize_any` meets its contract.
 -- Assumes nothing.
-use Prim.Native.Nat.{_≤_}
-use mathlib.Core.Path.{sym, ap, _∙_}
+use Prim.Native.Nat.{ℕ, _≤_}
+use mathlib.Core.Path.{refl, sym, ap, _∙_}
+use mathlib.Core.List.{List}
 use native.Mathlib.Omega.{arith}
 use denote.Ref.{now}
-use lib.ListN.{length, take}
+use lib.ListN.{length, drop}
 use Rattle.rules.specs.Table.{MOST-ROWS, MOST-BYTES}
-use Rattle.buffers.proofs.Meaning.{copied}
 use Rattle.normal_form.specs.Lent.{WORK}
+use Rattle.bundles.specs.Bundles.{poolStart}
 use Rattle.bundles.specs.Operations.{WriteOutcome}
 use Rattle.bundles.specs.Opening.{Opens}
 use Rattle.bundles.proofs.Opening.{new-room}
@@ -22,26 +23,30 @@ opened : (c : tie.After-known-told) → Opens (now (c .before .before .before .b
 opened c = c .before .before .before .before .read-rows .ensures .0 _ (c .before .n .given .1)
 
 -- Its pool is no longer than a pool may be.
-short : (c : tie.After-pool) → length (now (c .pool .result)) ≤ MOST-BYTES
-short c = pool-short _ _ _ (opened (c .before)) _ (c .pool .ensures)
+module _ (c : tie.After-known-told) where
+  abbrev bytes : List ℕ
+  bytes = drop (poolStart (c .before .n .given .0 .0)) (now (c .before .before .before .before .before .before .before .before .args .bundle))
+
+  short : length bytes ≤ MOST-BYTES
+  short = pool-short _ _ _ (opened c) _ refl
 
 normalize-requires : tie.Need-normalize-requires
 normalize-requires c κs =
-    let p = c .before .before .before .before .before in
-    let k = p .before in
+    let k = c .before .before .before .before .before in
+    let long = c .before .before .before .copy-pool .ensures .0 in
     let words = k .before .before .before .before .read-rows .kept .1 .0 in
     let few = opened k .few in
-    let fits = short p in
-    room-for _ _ _ _ MOST-ROWS MOST-BYTES (omega arith) (c .before .before .before .copy-bytes .kept .1 .0) (omega arith) (omega arith) (omega arith) (omega arith)
+    let fits = short k in
+    room-for _ _ _ _ MOST-ROWS MOST-BYTES (omega arith) (c .before .before .before .copy-pool .kept .1 .1 .0) (omega arith) (omega arith) (omega arith) (omega arith)
 
 write-made-requires : tie.Need-write-made-requires
 write-made-requires c κs = (_, _, c .before .before .before .before .before .normalize .ensures)
 
 returns : tie.Need-returns
 returns c =
-    let p = c .before .before .before .before .before .before .before .before .before .before .before .before .before .before in
-    let names = ap (take (length (now (p .pool .result)))) (c .before .before .before .before .before .before .before .before .before .before .before .before .copy-bytes .ensures) ∙ copied _ _ ∙ p .pool .ensures in
-    let is = normalize-open _ _ _ (opened (p .before)) _ names _ in
+    let k = c .before .before .before .before .before .before .before .before .before .before .before .before .before .before in
+    let names = c .before .before .before .before .before .before .before .before .before .before .before .before .copy-pool .ensures .1 in
+    let is = normalize-open _ _ _ (opened k) _ names _ in
     let made = c .before .before .before .before .before .before .before .before .normalize .ensures in
     let done = c .before .before .write-made .ensures in
     (done .0 _ _ made ∙ ap (λ (o : WriteOutcome). o .answer) is, done .1 _ _ made ∙ ap (λ (o : WriteOutcome). o .bytes) is)
@@ -59,11 +64,10 @@ normalize-any-spec =
     (λ c. search needs)
     (λ c κs. new-room (c .before .before .before .args .bundle .now) MOST-ROWS 0 (λ header few. few))
     (λ c. search needs)
-    (λ c κs. opened c .inside)
     (λ c. search needs)
     (λ c κs.
     let fits = short (c .before) in
-    fits-work (now (c .before .pool .result)) WORK (omega arith))
+    (opened (c .before) .inside, fits-work (bytes (c .before)) WORK (omega arith)))
     (λ c. search needs)
     (λ c. search needs)
     normalize-requires

@@ -1,12 +1,13 @@
 -- `bundle_normalization::normalize_few` meets its contract.
 -- Assumes nothing.
-use Prim.Native.Nat.{_*_, _≤_}
-use mathlib.Core.Path.{sym, ap, _∙_}
+use Prim.Native.Nat.{ℕ, _*_, _≤_}
+use mathlib.Core.Path.{refl, sym, ap, _∙_}
+use mathlib.Core.List.{List}
 use native.Mathlib.Omega.{arith}
 use denote.Ref.{now}
-use lib.ListN.{length, take}
-use Rattle.checker.specs.Lent.{FEW-ROWS, FEW-BYTES}
-use Rattle.buffers.proofs.Meaning.{copied}
+use lib.ListN.{length, drop}
+use Rattle.table_size.specs.Small.{FEW-ROWS, FEW-BYTES}
+use Rattle.bundles.specs.Bundles.{poolStart}
 use Rattle.bundles.specs.Operations.{WriteOutcome}
 use Rattle.bundles.specs.Opening.{Opens}
 use Rattle.bundles.proofs.Opening.{new-room}
@@ -22,27 +23,31 @@ opened : (c : tie.After-known-told) → Opens (now (c .before .before .before .b
 opened c = c .before .before .before .before .read-rows .ensures .0 _ (c .before .n .given .1)
 
 -- Its pool is short.
-short : (c : tie.After-pool) → length (now (c .pool .result)) ≤ FEW-BYTES
-short c = pool-few _ _ _ (opened (c .before)) (c .before .before .before .before .before .before .before .before .before .pre) _ (c .pool .ensures)
+module _ (c : tie.After-known-told) where
+  abbrev bytes : List ℕ
+  bytes = drop (poolStart (c .before .n .given .0 .0)) (now (c .before .before .before .before .before .before .before .before .args .bundle))
+
+  short : length bytes ≤ FEW-BYTES
+  short = pool-few _ _ _ (opened c) (c .before .before .before .before .before .before .before .before .pre) _ refl
 
 normalize-few-requires : tie.Need-normalize-few-requires
 normalize-few-requires c κs =
-    let p = c .before .before .before .before .before in
-    let k = p .before in
+    let k = c .before .before .before .before .before in
+    let long = c .before .before .before .copy-pool .ensures .0 in
     let words = k .before .before .before .before .read-rows .kept .1 .0 in
     let few = opened k .few in
     let within = rows-few _ _ _ (opened k) (k .before .before .before .before .before .before .before .before .pre) in
-    let fits = short p in
-    (room-for _ _ _ _ FEW-ROWS FEW-BYTES (omega arith) (c .before .before .before .copy-bytes .kept .1 .0) (omega arith) (omega arith) (omega arith) (omega arith), omega arith)
+    let fits = short k in
+    (room-for _ _ _ _ FEW-ROWS FEW-BYTES (omega arith) (c .before .before .before .copy-pool .kept .1 .1 .0) (omega arith) (omega arith) (omega arith) (omega arith), omega arith)
 
 write-made-requires : tie.Need-write-made-requires
 write-made-requires c κs = (_, _, c .before .before .before .before .before .normalize-few .ensures)
 
 returns : tie.Need-returns
 returns c =
-    let p = c .before .before .before .before .before .before .before .before .before .before .before .before .before .before in
-    let names = ap (take (length (now (p .pool .result)))) (c .before .before .before .before .before .before .before .before .before .before .before .before .copy-bytes .ensures) ∙ copied _ _ ∙ p .pool .ensures in
-    let is = normalize-open _ _ _ (opened (p .before)) _ names _ in
+    let k = c .before .before .before .before .before .before .before .before .before .before .before .before .before .before in
+    let names = c .before .before .before .before .before .before .before .before .before .before .before .before .copy-pool .ensures .1 in
+    let is = normalize-open _ _ _ (opened k) _ names _ in
     let made = c .before .before .before .before .before .before .before .before .normalize-few .ensures in
     let done = c .before .before .write-made .ensures in
     (done .0 _ _ made ∙ ap (λ (o : WriteOutcome). o .answer) is, done .1 _ _ made ∙ ap (λ (o : WriteOutcome). o .bytes) is)
@@ -60,11 +65,10 @@ normalize-few-spec =
     (λ c. search needs)
     (λ c κs. new-room (c .before .before .before .args .bundle .now) (2 * FEW-ROWS) 0 (λ header few. let small = c .before .before .before .pre .few header in omega arith))
     (λ c. search needs)
-    (λ c κs. opened c .inside)
     (λ c. search needs)
     (λ c κs.
     let fits = short (c .before) in
-    fits-work (now (c .before .pool .result)) FEW-WORK (omega arith))
+    (opened (c .before) .inside, fits-work (bytes (c .before)) FEW-WORK (omega arith)))
     (λ c. search needs)
     (λ c. search needs)
     normalize-few-requires

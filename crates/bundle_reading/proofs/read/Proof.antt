@@ -1,7 +1,6 @@
 -- `bundle_reading::read` meets its contract.
 -- Assumes nothing.
 use borrow.Author.Needs.{needs}
-use Rattle.bundles.proofs.Opening.{named}
 use Rattle.bundle_reading.proofs.read.Statement.{statement}
 use Rattle.bundle_reading.proofs.read.Tie as tie
 
@@ -19,7 +18,7 @@ read-spec =
     (λ c. search needs)
     (λ c. search needs)
     (λ c. c .before .before .before .before .read-any2 .ensures)
-    (λ c κs. named (c .before .before .before .before .before .before .before .before .before .args .bundle .now) _ _ (c .before .before .before .before .before .rows-named .ensures) (c .before .before .before .before .if1 .left))
+    (λ c κs. c .before .before .before .before .before .has-many-rows .ensures (c .before .before .before .before .if1 .left))
     (λ c. search needs)
     (λ c. search needs)
     (λ c. c .before .before .before .before .read-few .ensures))

@@ -4,7 +4,7 @@ use mathlib.Core.Path.{sym, ap, _∙_}
 use native.Mathlib.Omega.{arith}
 use denote.Ref.{now}
 use lib.Seq.{length-take-le}
-use Rattle.checker.specs.Lent.{FEW-ROWS}
+use Rattle.table_size.specs.Small.{FEW-ROWS}
 use Rattle.rules.specs.Outputs.{Outcome}
 use Rattle.bundles.specs.Opening.{Opens}
 use Rattle.bundles.proofs.Opening.{new-room, opened-few}

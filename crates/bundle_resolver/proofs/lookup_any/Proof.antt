@@ -1,13 +1,12 @@
 -- `bundle_resolver::lookup_any` meets its contract.
 -- Assumes nothing.
 use mathlib.Core.Path.{sym, _∙_}
-use native.Mathlib.Omega.{arith}
 use denote.Ref.{now}
-use lib.Seq.{length-take-le}
 use Rattle.rules.specs.Table.{MOST-ROWS}
 use Rattle.bundles.specs.Opening.{Opens}
 use Rattle.bundles.proofs.Opening.{new-room}
 use Rattle.bundles.proofs.Over.{lookup-not-open, lookup-open}
+use Rattle.bundle_resolver.proofs.Over.{over-table}
 use borrow.Author.Needs.{needs}
 use Rattle.bundle_resolver.proofs.lookup_any.Statement.{statement}
 use Rattle.bundle_resolver.proofs.lookup_any.Tie as tie
@@ -23,13 +22,10 @@ lookup-any-spec =
     (λ c. search needs)
     (λ c κs. new-room (c .before .before .before .args .bundle .now) MOST-ROWS 0 (λ header few. few))
     (λ c. search needs)
-    (λ c.
-    let few = opened c .few in
-    omega arith)
-    (λ c. opened c .room)
-    (λ c. sym (length-take-le _ _ (opened (c .before) .room)))
-    (λ c κs. opened (c .before) .inside)
+    (λ c. search needs)
+    (λ c κs. opened (c .before) .room)
+    (λ c κs. opened (c .before .before) .inside)
     (λ c κs. search needs)
     (λ c. search needs)
-    (λ c. c .lookup .ensures ∙ lookup-open _ _ _ (opened (c .before .before .before)) _ (c .before .pool .ensures) _ _ _)
+    (λ c. c .lookup .ensures ∙ over-table _ _ _ _ (c .before .before .table .ensures) ∙ lookup-open _ _ _ (opened (c .before .before .before .before)) _ (c .before .pool .ensures) _ _ _)
     (λ c. sym (lookup-not-open _ _ (c .before .before .before .before .read-rows .ensures .1 _ (c .before .x .given .1)) _ _ _)))

@@ -1,14 +1,13 @@
 -- `bundle_text::write_any` meets its contract.
 -- Assumes nothing.
 use mathlib.Core.Path.{sym, ap, _∙_}
-use native.Mathlib.Omega.{arith}
 use denote.Ref.{now}
-use lib.Seq.{length-take-le}
 use Rattle.rules.specs.Table.{MOST-ROWS}
 use Rattle.bundles.specs.Operations.{WriteOutcome}
 use Rattle.bundles.specs.Opening.{Opens}
 use Rattle.bundles.proofs.Opening.{new-room}
 use Rattle.markup.proofs.OverBundles.{text-not-open, text-open}
+use Rattle.bundle_text.proofs.Over.{over-table}
 use borrow.Author.Needs.{needs}
 use Rattle.bundle_text.proofs.write_any.Statement.{statement}
 use Rattle.bundle_text.proofs.write_any.Tie as tie
@@ -20,7 +19,7 @@ opened c = c .before .before .before .before .read-rows .ensures .0 _ (c .before
 returns : tie.Need-returns
 returns c =
     let done = c .before .before .write .ensures in
-    let is = text-open _ _ _ (opened (c .before .before .before .before .before .before)) _ (c .before .before .before .before .before .pool .ensures) _ _ in
+    let is = over-table _ _ _ (c .before .before .before .before .table .ensures) ∙ text-open _ _ _ (opened (c .before .before .before .before .before .before .before)) _ (c .before .before .before .before .before .before .pool .ensures) _ _ in
     (done .0 ∙ ap (λ (o : WriteOutcome). o .answer) is, done .1 ∙ ap (λ (o : WriteOutcome). o .bytes) is)
 
 returns-2 : tie.Need-returns-2
@@ -37,15 +36,8 @@ write-any-spec =
     (λ c κs. new-room (c .before .before .before .args .bundle .now) MOST-ROWS 0 (λ header few. few))
     (λ c. search needs)
     (λ c κs. opened c .inside)
-    (λ c.
-    let few = opened (c .before) .few in
-    omega arith)
-    (λ c.
-    let room = opened (c .before) .room in
-    omega arith)
-    (λ c.
-    let room = opened (c .before .before) .room in
-    sym (length-take-le _ _ (omega arith)))
+    (λ c. search needs)
+    (λ c κs. opened (c .before .before) .room)
     (λ c κs. search needs)
     (λ c. search needs)
     (λ c κs. search needs)

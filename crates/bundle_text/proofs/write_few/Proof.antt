@@ -1,14 +1,16 @@
 -- `bundle_text::write_few` meets its contract.
 -- Assumes nothing.
-use mathlib.Core.Path.{sym, ap, _∙_}
-use native.Mathlib.Omega.{arith}
+use Prim.Native.Nat.{ℕ, _≤_}
+use mathlib.Core.List.{List}
+use mathlib.Core.Path.{sym, ap, subst, _∙_}
 use denote.Ref.{now}
-use lib.Seq.{length-take-le}
-use Rattle.checker.specs.Lent.{FEW-ROWS}
+use Rattle.rules.specs.Table.{rowCount}
+use Rattle.table_size.specs.Small.{FEW-ROWS}
 use Rattle.bundles.specs.Operations.{WriteOutcome}
 use Rattle.bundles.specs.Opening.{Opens}
 use Rattle.bundles.proofs.Opening.{new-room, opened-few}
 use Rattle.markup.proofs.OverBundles.{text-not-open, text-open}
+use Rattle.bundle_text.proofs.Over.{over-table}
 use borrow.Author.Needs.{needs}
 use Rattle.bundle_text.proofs.write_few.Statement.{statement}
 use Rattle.bundle_text.proofs.write_few.Tie as tie
@@ -20,7 +22,7 @@ opened c = c .before .before .before .before .read-rows .ensures .0 _ (c .before
 returns : tie.Need-returns
 returns c =
     let done = c .before .before .write-few .ensures in
-    let is = text-open _ _ _ (opened (c .before .before .before .before .before .before)) _ (c .before .before .before .before .before .pool .ensures) _ _ in
+    let is = over-table _ _ _ (c .before .before .before .before .table .ensures) ∙ text-open _ _ _ (opened (c .before .before .before .before .before .before .before)) _ (c .before .before .before .before .before .before .pool .ensures) _ _ in
     (done .0 ∙ ap (λ (o : WriteOutcome). o .answer) is, done .1 ∙ ap (λ (o : WriteOutcome). o .bytes) is)
 
 returns-2 : tie.Need-returns-2
@@ -37,12 +39,9 @@ write-few-spec =
     (λ c κs. new-room (c .before .before .before .args .bundle .now) FEW-ROWS 0 (λ header few. c .before .before .before .pre header))
     (λ c. search needs)
     (λ c κs. opened c .inside)
-    (λ c.
-    let few = opened (c .before) .few in
-    omega arith)
-    (λ c. opened (c .before) .room)
-    (λ c. sym (length-take-le _ _ (opened (c .before .before) .room)))
-    (λ c κs. opened-few _ _ _ (opened (c .before .before .before)) FEW-ROWS (c .before .before .before .before .before .before .before .before .before .before .before .pre))
+    (λ c. search needs)
+    (λ c κs. opened (c .before .before) .room)
+    (λ c κs. subst (λ (t : List ℕ). rowCount t ≤ FEW-ROWS) (sym (c .before .table .ensures)) (opened-few _ _ _ (opened (c .before .before .before .before)) FEW-ROWS (c .before .before .before .before .before .before .before .before .before .before .before .before .pre)))
     (λ c. search needs)
     (λ c κs. search needs)
     (λ c. search needs)

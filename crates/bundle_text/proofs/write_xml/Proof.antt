@@ -1,7 +1,6 @@
 -- `bundle_text::write_xml` meets its contract.
 -- Assumes nothing.
 use borrow.Author.Needs.{needs}
-use Rattle.bundles.proofs.Opening.{named}
 use Rattle.bundle_text.proofs.write_xml.Statement.{statement}
 use Rattle.bundle_text.proofs.write_xml.Tie as tie
 
@@ -17,6 +16,6 @@ write-xml-spec =
     (λ c κs. search needs)
     (λ c. search needs)
     (λ c. c .before .before .write-any2 .ensures)
-    (λ c κs. named (c .before .before .before .before .before .before .before .args .bundle .now) _ _ (c .before .before .before .before .rows-named .ensures) (c .before .before .before .if1 .left))
+    (λ c κs. c .before .before .before .before .has-many-rows .ensures (c .before .before .before .if1 .left))
     (λ c. search needs)
     (λ c. c .before .before .write-few .ensures))

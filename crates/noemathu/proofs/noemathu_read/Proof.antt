@@ -1,7 +1,7 @@
 -- `noemathu::noemathu_read` meets its contract.
 -- Assumes nothing.
 use mathlib.Core.Path.{ap, _∙_}
-use Rattle.answers.specs.Given.{filledGiven}
+use Rattle.output_answers.specs.Given.{filledGiven}
 use borrow.Author.Needs.{needs}
 use Rattle.noemathu.proofs.noemathu_read.Statement.{statement}
 use Rattle.noemathu.proofs.noemathu_read.Tie as tie

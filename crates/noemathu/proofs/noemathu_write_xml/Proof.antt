@@ -1,7 +1,7 @@
 -- `noemathu::noemathu_write_xml` meets its contract.
 -- Assumes nothing.
 use mathlib.Core.Path.{ap, _∙_}
-use Rattle.answers.specs.Given.{writtenGiven}
+use Rattle.output_answers.specs.Given.{writtenGiven}
 use borrow.Author.Needs.{needs}
 use Rattle.noemathu.proofs.noemathu_write_xml.Statement.{statement}
 use Rattle.noemathu.proofs.noemathu_write_xml.Tie as tie

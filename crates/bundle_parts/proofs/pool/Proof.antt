@@ -1,4 +1,4 @@
--- `bundle_opening::pool` meets its contract.
+-- `bundle_parts::pool` meets its contract.
 -- Assumes nothing.
 use Prim.Native.Nat.{_-_}
 use native.Mathlib.Omega.{arith}
@@ -7,8 +7,8 @@ use lib.ListN.{length, drop, length-drop}
 use lib.Seq.{take-all}
 use Rattle.bundles.specs.Bundles.{poolStart}
 use borrow.Author.Needs.{needs}
-use Rattle.bundle_opening.proofs.pool.Statement.{statement}
-use Rattle.bundle_opening.proofs.pool.Tie as tie
+use Rattle.bundle_parts.proofs.pool.Statement.{statement}
+use Rattle.bundle_parts.proofs.pool.Tie as tie
 
 mul-result : tie.Need-mul-result
 mul-result c = search needs

@@ -1,0 +1,2 @@
+-- Over: a lookup in equal tables.
+pub mod Over

@@ -1,0 +1,2 @@
+-- Over: the text of equal tables.
+pub mod Over
