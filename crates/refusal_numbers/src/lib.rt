@@ -41,6 +41,11 @@ pub fn number_of(refusal: Refusal) -> Number
         Refusal::Version => Number::new(31, Row(0), 0),
         Refusal::Lengths => Number::new(32, Row(0), 0),
         Refusal::BundleRoom => Number::new(33, Row(0), 0),
+        Refusal::Original { row, word } => Number::new(40, row, word),
+        Refusal::Proposal { row, word } => Number::new(41, row, word),
+        Refusal::ProposalLevel1(row) => Number::new(42, row, 0),
+        Refusal::Changed(row) => Number::new(43, row, 0),
+        Refusal::Unresolved(row) => Number::new(44, row, 0),
     }
 }
 

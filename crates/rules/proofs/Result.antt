@@ -327,6 +327,11 @@ refusal-numbered Refusal.Mark = refl
 refusal-numbered Refusal.Version = refl
 refusal-numbered Refusal.Lengths = refl
 refusal-numbered Refusal.BundleRoom = refl
+refusal-numbered (Refusal.Original r w) = refl
+refusal-numbered (Refusal.Proposal r w) = refl
+refusal-numbered (Refusal.ProposalLevel1 r) = refl
+refusal-numbered (Refusal.Changed r) = refl
+refusal-numbered (Refusal.Unresolved r) = refl
 
 refused-fails : (tableSize poolSize : ℕ) (x : Refusal) → succeeded (refusal tableSize poolSize x) ≡ false
 unfolding succeeded refusal filledNumber

@@ -124,6 +124,16 @@ pub enum Refusal {
     Lengths,
     // 33: the output has too few bytes for the bundle.
     BundleRoom,
+    // 40: the original of a proposal fails the check, at this row and field.
+    Original { row: Row, word: u32 },
+    // 41: the proposal fails the check, at this row and field.
+    Proposal { row: Row, word: u32 },
+    // 42: a DOM Level 1 row of the original or of the proposal.
+    ProposalLevel1(Row),
+    // 43: a row of the original that the proposal does not keep, or a further row that is no declaration.
+    Changed(Row),
+    // 44: a name of the proposal that does not mean its URI in scope.
+    Unresolved(Row),
 }
 
 // What the check answers.

@@ -1,0 +1,1 @@
+// What a planner, who is not trusted, proposes for an original.
