@@ -29,7 +29,7 @@ pub fn same_short(a: &[u8], b: &[u8]) -> bool
 }
 
 // The four bytes from i on are equal in both: the compiler makes one comparison of them.
-fn same_four(a: &[u8], b: &[u8], i: usize) -> bool
+pub fn same_four(a: &[u8], b: &[u8], i: usize) -> bool
     requires { ⌜ (i + 4 ≤ length (now a)) × (i + 4 ≤ length (now b)) ⌝ }
     ensures { λ r. ⌜ r ≡ sameBytes (part (now (a .entry)) i 4) (part (now (b .entry)) i 4) ⌝ }
 {
