@@ -97,7 +97,7 @@ module _ {table pool notes tops path : List ℕ} (w : Walkable table pool notes 
       (λ t. let none : NONE ≡ r = rw t at owned in absurd (omega (arith, none)))
 
   -- An attribute declares nothing.
-  attribute-bare : (r : ℕ) → r < rowCount table → word table r TYPE ≡ ATTRIBUTE → noteAt notes r LATEST ≡ 0
+  pub attribute-bare : (r : ℕ) → r < rowCount table → word table r TYPE ≡ ATTRIBUTE → noteAt notes r LATEST ≡ 0
   attribute-bare r below kind =
       by-cases (eqb (noteAt notes r LATEST) 0)
       (λ t. eqb-true (noteAt notes r LATEST) 0 t)
