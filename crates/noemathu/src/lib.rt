@@ -6,6 +6,7 @@ ghost use Rattle.answers.specs.Given.{checkGiven, locatedGiven, boundGiven};
 ghost use Rattle.output_answers.specs.Given.{filledGiven, writtenGiven};
 ghost use Rattle.bundles.specs.Operations.{bundleRead, tableWritten, bundleChecked, bundleUriOfPrefix, bundlePrefixOfUri, bundleDefaultUri, bundleInScopeUri, bundleInScopePrefix, bundleNormalized};
 ghost use Rattle.markup.specs.Writing.{bundleText};
+ghost use Rattle.proposals.specs.Proposals.{bundleProposalChecked};
 use answers::Found;
 use output_answers::Sizes;
 use output_answers::Used;
@@ -18,6 +19,14 @@ pub extern "C" fn noemathu_check(bundle: &[u8]) -> Number
     ensures { λ r. ⌜ r ≡ checkGiven (bundleChecked (now (bundle .entry))) ⌝ }
 {
     answers::check_number(bundle_check::check(bundle))
+}
+
+// What a proposal for an original is refused for, or that it is accepted.
+#[no_mangle]
+pub extern "C" fn noemathu_check_proposal(original: &[u8], proposal: &[u8]) -> Number
+    ensures { λ r. ⌜ r ≡ checkGiven (bundleProposalChecked (now (original .entry)) (now (proposal .entry))) ⌝ }
+{
+    answers::check_number(bundle_proposals::check(original, proposal))
 }
 
 // The URI of a prefix at a row; the empty prefix is the default.

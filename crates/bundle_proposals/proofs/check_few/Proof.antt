@@ -1,0 +1,89 @@
+-- `check_few` meets its contract.
+-- Assumes nothing.
+use mathlib.Core.Path.{sym, _∙_}
+use native.Mathlib.Omega.{arith}
+use lib.Seq.{length-take-le}
+use Rattle.table_size.specs.Small.{FEW-ROWS}
+use Rattle.bundles.proofs.Opening.{new-room}
+use Rattle.bundle_proposals.proofs.Bundles.{original-fails, original-open}
+use Rattle.bundle_proposals.proofs.Numbering.{new-notes, handed}
+use borrow.Author.Needs.{needs}
+use Rattle.bundle_proposals.proofs.check_few.Statement.{statement}
+use Rattle.bundle_proposals.proofs.check_few.Tie as tie
+
+slice-aggregate-number-few : tie.Need-slice-aggregate-number-few
+slice-aggregate-number-few c = search needs
+
+slice-aggregate-number-few-2 : tie.Need-slice-aggregate-number-few-2
+slice-aggregate-number-few-2 c = search needs
+
+number-few-requires : tie.Need-number-few-requires
+number-few-requires c κs =
+    let s = c .before .before .before .before in
+    (s .pre .0, (new-room (s .args .original .now) FEW-ROWS 0 (λ header few. s .pre .0 header), new-notes (s .args .original .now) FEW-ROWS 0 (λ header few. s .pre .0 header)))
+
+enum-known-n : tie.Need-enum-known-n
+enum-known-n c = search needs
+
+pool-requires : tie.Need-pool-requires
+pool-requires c κs = c .before .before .before .before .before .number-few .ensures .0 _ (c .before .n .given .1) .opens .inside
+
+mul-table : tie.Need-mul-table
+mul-table c =
+    let o = c .before .before .before .before .before .before .number-few .ensures .0 _ (c .before .before .n .given .1) in
+    omega (arith, o .opens .few)
+
+array-share-prefix-table : tie.Need-array-share-prefix-table
+array-share-prefix-table c =
+    let o = c .before .before .before .before .before .before .number-few .ensures .0 _ (c .before .before .n .given .1) in
+    omega (arith, o .opens .room)
+
+slice-aggregate-check-few-proposal : tie.Need-slice-aggregate-check-few-proposal
+slice-aggregate-check-few-proposal c =
+    let o = c .before .before .before .before .before .before .before .number-few .ensures .0 _ (c .before .before .before .n .given .1) in
+    sym (length-take-le _ _ (omega (arith, o .opens .room)))
+
+slice-aggregate-check-few-proposal-2 : tie.Need-slice-aggregate-check-few-proposal-2
+slice-aggregate-check-few-proposal-2 c = search needs
+
+check-few-proposal-requires : tie.Need-check-few-proposal-requires
+check-few-proposal-requires c κs =
+    let s = c .before .before .before .before .before .before .before .before .before .before .before .before .before in
+    let o = c .before .before .before .before .before .before .before .before .number-few .ensures .0 _ (c .before .before .before .before .n .given .1) in
+    let h = handed _ _ _ _ o _ (c .before .before .pool .ensures) in
+    ((s .pre .1, h .0), h .1)
+
+enum-known-why : tie.Need-enum-known-why
+enum-known-why c = search needs
+
+refuse-original-requires : tie.Need-refuse-original-requires
+refuse-original-requires c κs = search needs
+
+returns : tie.Need-returns
+returns c =
+    let o = c .before .before .before .before .before .before .before .before .before .number-few .ensures .0 _ (c .before .before .before .before .before .n .given .1) in
+    c .check-few-proposal .ensures ∙ original-open _ _ _ (o .opens) (c .before .before .before .before .before .before .before .before .before .before .before .before .before .before .args .proposal .now) _ (c .before .before .before .pool .ensures)
+
+returns-2 : tie.Need-returns-2
+returns-2 c =
+    let s = c .before .before .before .before .before .before .before .before .before .before .before in
+    c .refuse-original .ensures ∙ original-fails (s .args .original .now) (s .args .proposal .now) _ (c .before .before .before .before .before .before .number-few .ensures .1 _ (c .before .before .why .given .1))
+
+pub check-few-spec : {M : Type 1} → statement M
+check-few-spec =
+    tie.close
+    (tie.spec
+    slice-aggregate-number-few
+    slice-aggregate-number-few-2
+    number-few-requires
+    enum-known-n
+    pool-requires
+    mul-table
+    array-share-prefix-table
+    slice-aggregate-check-few-proposal
+    slice-aggregate-check-few-proposal-2
+    check-few-proposal-requires
+    enum-known-why
+    refuse-original-requires
+    returns
+    returns-2)

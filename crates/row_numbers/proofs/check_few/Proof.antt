@@ -1,0 +1,27 @@
+-- `row_numbers::check_few` meets its contract.
+-- Assumes nothing.
+use borrow.Author.Needs.{needs}
+use Rattle.table_size.specs.Small.{FEW-ROWS}
+use Rattle.row_numbers.proofs.Noting.{lent, named-noted}
+use Rattle.row_numbers.proofs.check_few.Statement.{statement}
+use Rattle.row_numbers.proofs.check_few.Tie as tie
+
+slice-aggregate-check-numbered : tie.Need-slice-aggregate-check-numbered
+slice-aggregate-check-numbered c = search needs
+
+check-numbered-requires : tie.Need-check-numbered-requires
+check-numbered-requires c κs =
+    let s = c .before .before .before .before .before in
+    lent (s .args .table .now) (s .args .notes .now) FEW-ROWS (λ h. s .pre .0) (s .pre .1)
+
+same-length : tie.Need-same-length
+same-length c = search needs
+
+returns : tie.Need-returns
+returns c =
+    let s = c .before .before .before .before .before .before .before .before .before in
+    let k = c .before .before .before .check-numbered in
+    (k .ensures .0, named-noted (s .args .table .now) (s .args .pool .now) (s .args .notes .now) _ _ (s .pre .1) (k .kept .1 .1 .1 .0) (k .ensures .0) (k .ensures .1 .0))
+
+pub check-few-spec : {M : Type 1} → statement M
+check-few-spec = tie.close (tie.spec slice-aggregate-check-numbered check-numbered-requires same-length returns)
