@@ -3,8 +3,9 @@
    A session bundle is a tree of XML nodes as one string of bytes. The functions
    here check a bundle, tell what a prefix or a namespace URI means at a node,
    and normalize a bundle: they set and add namespace declarations so that every
-   element and attribute means the URI that its maker gave it. One writes an
-   element as XML text, and two more turn a bundle into rows and names, and back.
+   element and attribute means the URI that its maker gave it. One judges a bundle
+   that somebody else proposes for another, one writes an element as XML text, and
+   two more turn a bundle into rows and names, and back.
 
    Link with -lnoemathu, or see `pkg-config --cflags --libs noemathu`. The
    library is for x86-64 and calls nothing but the C library's memory functions.
@@ -122,14 +123,15 @@
    Every function takes any bytes whatever, judges the whole bundle or table
    first, and always returns; a lookup costs little more than that judgement.
    Each answer begins with a refusal: its number, 0 if the call was not refused,
-   the row that is at fault, 0 where no row is, and for 3, 12, 13 and 14 the word,
-   2, 4, 6 or 8, at which the field at fault begins, 0 for all others; see
-   noemathu_field. The rest of a refused answer is 0: nothing found, nothing used.
+   the row that is at fault, 0 where no row is, and for 3, 12, 13 and 14, and for
+   40 and 41 that stand for one of these, the word, 2, 4, 6 or 8, at which the
+   field at fault begins, 0 for all others; see noemathu_field. The rest of a
+   refused answer is 0: nothing found, nothing used.
 
    The first fault is named. The numbers are tried in this order: 30, 31, 32; 1;
    then row after row, each for 2; its fields in order, each for 3 and 12; its
    fields again for 13, and again for 14; 4 to 7; then 8, 9; 10, 11, 33; 20, 21,
-   23, 24, 22.
+   23, 24, 22. noemathu_check_proposal has 40 to 44, in this order, and no other.
 
    What was found is told by its place, an offset and a length in the pool of the
    bundle that was asked: see noemathu_bytes. */
@@ -146,7 +148,7 @@
 extern "C" {
 #endif
 
-#define NOEMATHU_VERSION "0.1.0"
+#define NOEMATHU_VERSION "0.2.0"
 
 /* The limits of a table, and of a bundle: 73,740 bytes. */
 #define NOEMATHU_ROW_WORDS 10
@@ -167,13 +169,15 @@ extern "C" {
 
 /* Bytes of stack that are enough for any call. Measured were at most 86,624 for
    noemathu_write, 130,240 for noemathu_check and noemathu_read, 133,536 for the
-   lookups, 240,888 for noemathu_write_xml and 223,760 for noemathu_normalize. */
+   lookups, 199,744 for noemathu_check_proposal, 240,888 for noemathu_write_xml
+   and 223,760 for noemathu_normalize. */
 #define NOEMATHU_STACK 262144
 
 /* A small bundle, or a small table and its pool, and the bytes of stack that are
    enough for any call on one. Measured were at most 26,032 for
    noemathu_write, 28,624 for noemathu_check and noemathu_read, 29,136 for the
-   lookups, 31,568 for noemathu_write_xml and 39,504 for noemathu_normalize. */
+   lookups, 33,952 for noemathu_check_proposal, 31,568 for noemathu_write_xml and
+   39,504 for noemathu_normalize. */
 #define NOEMATHU_FEW_ROWS 64
 #define NOEMATHU_SHORT_POOL 4096
 #define NOEMATHU_SMALL_STACK 40960
@@ -309,6 +313,26 @@ extern "C" {
    for noemathu_normalize what noemathu_room says. */
 #define NOEMATHU_REFUSED_BUNDLE_ROOM 33
 
+/* The original is no bundle that noemathu_check accepts; row and word are those
+   that it names. Ask noemathu_check for the number. */
+#define NOEMATHU_REFUSED_ORIGINAL 40
+
+/* The proposal is no bundle that noemathu_check accepts; row and word are those
+   that it names. Ask noemathu_check for the number; do without the proposal. */
+#define NOEMATHU_REFUSED_PROPOSAL 41
+
+/* A row of type 257 or 258 in the original, or else in the proposal, which has no
+   namespace to keep. Make it a row of type 1 or 2, with its URI. */
+#define NOEMATHU_REFUSED_PROPOSAL_LEVEL1 42
+
+/* The proposal does not keep this row of the original, or has no such row; or the
+   row is further than the original's and is no declaration. Do without it. */
+#define NOEMATHU_REFUSED_CHANGED 43
+
+/* This element or owned attribute of the proposal does not mean its URI by the
+   declarations in scope there. Do without it, or normalize it. */
+#define NOEMATHU_REFUSED_UNRESOLVED 44
+
 /* What a refusal's number means, in a few words. */
 static inline const char *noemathu_text(uint32_t number)
 {
@@ -337,6 +361,11 @@ static inline const char *noemathu_text(uint32_t number)
     case NOEMATHU_REFUSED_VERSION: return "a bundle of another version";
     case NOEMATHU_REFUSED_LENGTHS: return "a bundle that was cut, lengthened or damaged";
     case NOEMATHU_REFUSED_BUNDLE_ROOM: return "too few bytes for the bundle";
+    case NOEMATHU_REFUSED_ORIGINAL: return "an original that the check refuses";
+    case NOEMATHU_REFUSED_PROPOSAL: return "a proposal that the check refuses";
+    case NOEMATHU_REFUSED_PROPOSAL_LEVEL1: return "a DOM Level 1 node in the original or the proposal";
+    case NOEMATHU_REFUSED_CHANGED: return "a row that the proposal changed, lost or added";
+    case NOEMATHU_REFUSED_UNRESOLVED: return "a name of the proposal that does not mean its URI";
     default: return "unknown refusal";
     }
 }
@@ -403,6 +432,21 @@ typedef struct noemathu_used {
    accepted here is accepted by all others too, apart from 8 to 11, 20 to 24 and
    33. */
 noemathu_refusal noemathu_check(const uint8_t *bundle, size_t length);
+
+/* Judges a bundle that somebody else made of another, to have prefixes of their
+   own. It is accepted exactly if both pass noemathu_check; neither has rows of
+   type 257 or 258; every row of the original has in the proposal its type, its
+   parent and the bytes of its local name, URI and value, save that a declaration
+   may have another value; an attribute without an owner has its prefix; every
+   further row is a declaration; and every element and owned attribute means its
+   URI in scope. Prefixes, offsets and the pool may be others. What
+   noemathu_normalize makes of the original is always accepted, and
+   noemathu_normalize leaves what is accepted as it is. Refusals: 40 to 44, in
+   this order; 40 for the original and 41 for the proposal also stand for 30 to
+   32, with row 0; 42 names the lowest row, of the original first; 43 the lowest
+   row that is changed, missing or added; 44 the lowest. Nothing is written. */
+noemathu_refusal noemathu_check_proposal(const uint8_t *original, size_t original_length,
+                                         const uint8_t *proposal, size_t proposal_length);
 
 /* The lookups start at an element. From an attribute or a declaration that is its
    owner; from a document its element; from an entity, a document type, a
