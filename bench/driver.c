@@ -34,6 +34,12 @@ static void check(void)
     refusal = noemathu_check(bundle, length);
 }
 
+/* The bundle is proposed for itself. */
+static void check_proposal(void)
+{
+    refusal = noemathu_check_proposal(bundle, length, bundle, length);
+}
+
 static void keep(noemathu_found found)
 {
     refusal = found.refusal;
@@ -160,7 +166,7 @@ static void table_normalize_small(void) { table_normalize_into(SMALL_ROWS, SMALL
 static const struct {
     const char *name;
     void (*run)(void);
-} operations[] = {{"check", check}, {"uri", uri}, {"prefix", prefix}, {"default", default_uri},
+} operations[] = {{"check", check}, {"check_proposal", check_proposal}, {"uri", uri}, {"prefix", prefix}, {"default", default_uri},
                   {"in_scope_uri", in_scope_uri}, {"in_scope_prefix", in_scope_prefix}, {"normalize", normalize},
                   {"read", read_bundle}, {"write", write_bundle}, {"write_xml", write_xml}, {"copy", copy},
                   {"memcpy", copy_at_once}, {"normalize_small", normalize_small}, {"table_check", table_check},

@@ -1035,6 +1035,45 @@ static void helpers(void)
     EXPECT(held == 6 && (size_t)place.offset + place.length > 6 && is_pattern(pool + 6, pool + 8));
 }
 
+/* ---- proposals */
+
+/* A proposal of so many bytes for a sample, both lent at such places. */
+static void proposed(const struct sample *sample, const uint8_t *proposal, size_t length, struct where where, uint32_t number, uint32_t row)
+{
+    lend(&bundle_room, sample->bundle, sample->length, where);
+    lend(&out_room, proposal, length, where);
+    EXPECT(is_refusal(noemathu_check_proposal(bundle_room.lent, sample->length, out_room.lent, length), number, row));
+    EXPECT(holds(&out_room, proposal, length));
+    take_back(&bundle_room);
+    take_back(&out_room);
+}
+
+/* What is normalized, what is not, and what is no bundle: of every length, at every alignment. */
+static void proposals(void)
+{
+    EXPECT(is_refusal(noemathu_check_proposal(NULL, 0, NULL, 0), 40, 0));
+    EXPECT(is_refusal(noemathu_check_proposal(NULL, 0, bundle_a, sizeof bundle_a), 40, 0));
+    EXPECT(is_refusal(noemathu_check_proposal(bundle_a, sizeof bundle_a, NULL, 0), 41, 0));
+    EXPECT(is_refusal(noemathu_check_proposal(bundle_none, sizeof bundle_none, bundle_none, sizeof bundle_none), 0, 0));
+    EXPECT(is_refusal(noemathu_check_proposal(bundle_none, sizeof bundle_none, bundle_a, sizeof bundle_a), 43, 0));
+    EXPECT(is_refusal(noemathu_check_proposal(bundle_a, sizeof bundle_a, bundle_none, sizeof bundle_none), 43, 0));
+    EXPECT(is_refusal(noemathu_check_proposal(result_a, sizeof result_a, bundle_a, sizeof bundle_a), 43, 1));
+    EXPECT(is_refusal(noemathu_check_proposal(bundle_a, sizeof bundle_a, result_b, sizeof result_b), 43, 0));
+    for (size_t i = 0; i < 16; i++)
+        for (size_t s = 0; s < SAMPLES; s++) {
+            const struct sample *sample = &samples[s];
+            struct where where = {i >= 8, i % 8};
+            for (size_t length = 0; length < sample->result_length; length++)
+                proposed(sample, sample->result, length, where, 41, 0);
+            proposed(sample, sample->result, sample->result_length, where, 0, 0);
+        }
+    /* The samples themselves: a name of each that does not resolve. */
+    proposed(&samples[1], bundle_a, sizeof bundle_a, ENDS, 44, 0);
+    proposed(&samples[2], bundle_b, sizeof bundle_b, ENDS, 44, 1);
+    /* Both may be the same bytes. */
+    EXPECT(is_refusal(noemathu_check_proposal(result_a, sizeof result_a, result_a, sizeof result_a), 0, 0));
+}
+
 /* ---- the stack */
 
 static size_t large_length;
@@ -1059,6 +1098,8 @@ static void run_write(void)
 }
 
 static void run_write_xml(void) { noemathu_write_xml(large, large_length, 0, large_out, sizeof large_out); }
+
+static void run_check_proposal(void) { noemathu_check_proposal(large, large_length, large, large_length); }
 
 static void *run(void *call)
 {
@@ -1087,7 +1128,7 @@ static size_t stack_of(void (*call)(void))
 }
 
 static void (*const calls[])(void) = {run_check, run_uri, run_prefix, run_default, run_in_scope_uri, run_in_scope_prefix,
-                                      run_normalize, run_read, run_write, run_write_xml};
+                                      run_normalize, run_read, run_write, run_write_xml, run_check_proposal};
 
 enum { CALLS = sizeof calls / sizeof *calls };
 
@@ -1177,6 +1218,7 @@ int main(void)
     deepest_text();
     beyond_the_limits();
     helpers();
+    proposals();
     stack_as_told();
     small_stack_as_told();
     calls_at_once();

@@ -5,6 +5,7 @@ text (reading.py).
 A bundle, a pool and a query are strings of bytes, a table is a sequence of words, a row a number.
 
     check(bundle) -> (number, row, word)
+    check_proposal(bundle, proposal) -> (number, row, word)
     uri_of_prefix(bundle, row, query) -> (number, row, word, found, offset, length)
     prefix_of_uri(bundle, row, query) -> (number, row, word, found, offset, length)
     default_uri(bundle, row) -> (number, row, word, found, offset, length)
@@ -104,6 +105,19 @@ def check(bundle):
         return reading.check(*split(bundle))
     except Refused as refused:
         return refused.refusal
+
+
+def check_proposal(bundle, proposal):
+    """What is no bundle fails the check."""
+    return reading.judge_proposal(reading.Refusal(*check(bundle)), *opened(bundle), reading.Refusal(*check(proposal)), *opened(proposal))
+
+
+def opened(bundle):
+    """The table and the pool, or nothing of what is no bundle."""
+    try:
+        return split(bundle)
+    except Refused:
+        return (), b""
 
 
 def found(bundle, lookup, *asked):

@@ -516,6 +516,57 @@ def declared_values_not_tried():
                                              for number, rows in right(tree, start))
 
 
+def declaration_value_compared():
+    """A declaration keeps its value too."""
+    right = reading.keeps_row
+    reading.keeps_row = lambda row, proposed: right(row, proposed) and row.value.text == proposed.value.text
+
+
+def element_prefix_compared():
+    """An element keeps its prefix too."""
+    right = reading.keeps_row
+    reading.keeps_row = lambda row, proposed: right(row, proposed) and (
+        row.type != reading.ELEMENT or row.prefix.text == proposed.prefix.text)
+
+
+def ownerless_prefix_free():
+    """An attribute without an owner may take another prefix."""
+    reading.keeps_row = lambda row, proposed: (
+        (row.type, row.parent, row.local_name.text, row.uri.text)
+        == (proposed.type, proposed.parent, proposed.local_name.text, proposed.uri.text)
+        and (row.type == reading.DECLARATION or row.value.text == proposed.value.text))
+
+
+def proposal_level1_first():
+    """42 looks at the proposal first."""
+    reading.level1_order = lambda original, proposal: (proposal, original)
+
+
+def missing_row_accepted():
+    """A missing row is no change."""
+    right = reading.keeps
+    reading.keeps = lambda original, proposal, number: number >= len(proposal.rows) or right(original, proposal, number)
+
+
+def extra_rows_not_looked_at():
+    """A further row may be of any type."""
+    right = reading.keeps
+    reading.keeps = lambda original, proposal, number: number >= len(original.rows) or right(original, proposal, number)
+
+
+def unresolved_by_uri_lookup():
+    """44 asks the URI lookup, so that an element's own name answers."""
+    right = reading.resolves
+    reading.resolves = lambda tree, row: right(tree, row) or (
+        row.type == reading.ELEMENT and reading.uri_from(tree, row, row.prefix.text).field.text == row.uri.text)
+
+
+def ownerless_attribute_asked():
+    """44 asks attributes without an owner."""
+    right = reading.is_asked
+    reading.is_asked = lambda row: right(row) or row.type == reading.ATTRIBUTE and row.prefix.text == b"" != row.uri.text
+
+
 FAULTS = {fault.__name__: fault for fault in (
     shadowed_prefix, shadowed_own_prefix, element_by_uri_lookup, default_serves_attribute, bound_prefix_declared,
     declared_xml, xmlns_not_built_in, built_in_without_start, nothing_is_no_default, unprefixed_decides,
@@ -529,4 +580,6 @@ FAULTS = {fault.__name__: fault for fault in (
     text_room_off_by_one, text_room_first, undeclared_before_character, character_before_markup,
     inherited_before_undeclared, row_by_row, inherited_at_the_start, inherited_where_used, empty_is_inherited,
     xml_not_inherited, between_not_looked_at, beside_counts, owner_written, attribute_without_prefix,
-    noncharacters_allowed, declared_values_not_tried)}
+    noncharacters_allowed, declared_values_not_tried,
+    declaration_value_compared, element_prefix_compared, ownerless_prefix_free, proposal_level1_first, missing_row_accepted,
+    extra_rows_not_looked_at, unresolved_by_uri_lookup, ownerless_attribute_asked)}

@@ -46,6 +46,7 @@ LOOKUP = BUFFER + [WORD, ctypes.c_char_p, SIZE]
 # The parameters and the result of each operation.
 FUNCTIONS = {
     "check": (BUFFER, Refusal),
+    "check_proposal": (BUFFER * 2, Refusal),
     "uri_of_prefix": (LOOKUP, Found),
     "prefix_of_uri": (LOOKUP, Found),
     "default_uri": (BUFFER + [WORD], Found),
@@ -120,7 +121,7 @@ class Library:
             function = getattr(loaded, "noemathu_" + operation)
             function.argtypes, function.restype = parameters, result
             self.functions[operation] = function
-        self.rooms = {name: Room() for name in ("bundle", "table", "pool", "out", "out_table", "out_pool")}
+        self.rooms = {name: Room() for name in ("bundle", "proposal", "table", "pool", "out", "out_table", "out_pool")}
         self.lent, self.shift = {}, 0
 
     def lend(self, bundle, table, pool, shift):
@@ -139,6 +140,12 @@ class Library:
 
     def check(self, operation):
         answer = self.functions[operation](*self.lent["bundle"])
+        return answer.given()
+
+    def check_proposal(self, operation, proposal):
+        lent = self.rooms["proposal"].lend(len(proposal), self.shift, proposal)
+        answer = self.functions[operation](*self.lent["bundle"], *lent)
+        self.rooms["proposal"].taken_back("the proposal")
         return answer.given()
 
     def lookup(self, operation, row, query):

@@ -5,6 +5,7 @@ after its definitions had been read. tests/compare holds the library to it.
 A table is a sequence of words, a pool a string of bytes, a row a number, a query a string of bytes.
 
     check(table, pool) -> (number, row, word)
+    check_proposal(table, pool, proposed_table, proposed_pool) -> (number, row, word)
     uri_of_prefix(table, pool, row, query) -> (number, row, word, kind, offset, length)
     prefix_of_uri(table, pool, row, query) -> (number, row, word, offset, length)
     default_uri(table, pool, row) -> (number, row, word, offset, length)
@@ -294,6 +295,66 @@ def checked(table, pool):
             if drawn:
                 return Refusal(number, row.number, word), None
     return NOT_REFUSED, tree
+
+
+# Proposals.
+
+def check_proposal(table, pool, proposed_table, proposed_pool):
+    """Order: 40 original fails, 41 proposal fails, with the failed check's row and word; 42 Level 1, the original first; 43 a
+    row changed or an extra row of another type; 44 a name doesn't resolve; each at its lowest row."""
+    return judge_proposal(check(table, pool), table, pool, check(proposed_table, proposed_pool), proposed_table, proposed_pool)
+
+
+def judge_proposal(drawn, table, pool, proposed_drawn, proposed_table, proposed_pool):
+    """The same, where the checks of the two drew this."""
+    if drawn.number:
+        return Refusal(40, drawn.row, drawn.word)
+    if proposed_drawn.number:
+        return Refusal(41, proposed_drawn.row, proposed_drawn.word)
+    original, proposal = Tree(table, pool), Tree(proposed_table, proposed_pool)
+    for tree in level1_order(original, proposal):
+        if first_level1(tree).number:
+            return Refusal(42, first_level1(tree).row)
+    for number in range(max(len(original.rows), len(proposal.rows))):
+        if not keeps(original, proposal, number):
+            return Refusal(43, number)
+    for row in proposal.rows:
+        if is_asked(row) and not resolves(proposal, row):
+            return Refusal(44, row.number)
+    return NOT_REFUSED
+
+
+def level1_order(original, proposal):
+    """42 looks at the original first."""
+    return original, proposal
+
+
+def keeps(original, proposal, number):
+    """Every further row is type 13; a missing row counts as changed."""
+    if number >= len(proposal.rows):
+        return False
+    if number >= len(original.rows):
+        return proposal.rows[number].type == DECLARATION
+    return keeps_row(original.rows[number], proposal.rows[number])
+
+
+def keeps_row(row, proposed):
+    """The original rows keep type, parent, and the bytes of local name, URI and value, save that a declaration's value may
+    differ; ownerless attributes keep their prefix."""
+    return ((row.type, row.parent, row.local_name.text, row.uri.text)
+            == (proposed.type, proposed.parent, proposed.local_name.text, proposed.uri.text)
+            and (row.type == DECLARATION or row.value.text == proposed.value.text)
+            and (row.type != ATTRIBUTE or row.parent != NONE or row.prefix.text == proposed.prefix.text))
+
+
+def is_asked(row):
+    """Every element and owned attribute."""
+    return row.type == ELEMENT or row.type == ATTRIBUTE and row.parent != NONE
+
+
+def resolves(tree, row):
+    """It means its URI in scope."""
+    return means_its_uri(tree, row)
 
 
 # Lookups.
