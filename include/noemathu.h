@@ -167,17 +167,17 @@ extern "C" {
    a bundle needs see noemathu_xml_room. */
 #define NOEMATHU_XML_MOST 201124912
 
-/* Bytes of stack that are enough for any call. Measured were at most 86,624 for
-   noemathu_write, 130,240 for noemathu_check and noemathu_read, 133,536 for the
-   lookups, 199,744 for noemathu_check_proposal, 240,888 for noemathu_write_xml
-   and 223,760 for noemathu_normalize. */
+/* Bytes of stack that are enough for any call. Measured were at most 82,592 for
+   noemathu_write, 126,144 for noemathu_check and noemathu_read, 129,472 for the
+   lookups, 216,144 for noemathu_check_proposal, 237,416 for noemathu_write_xml
+   and 223,680 for noemathu_normalize. */
 #define NOEMATHU_STACK 262144
 
 /* A small bundle, or a small table and its pool, and the bytes of stack that are
-   enough for any call on one. Measured were at most 26,032 for
-   noemathu_write, 28,624 for noemathu_check and noemathu_read, 29,136 for the
-   lookups, 33,952 for noemathu_check_proposal, 31,568 for noemathu_write_xml and
-   39,504 for noemathu_normalize. */
+   enough for any call on one. Measured were at most 22,000 for
+   noemathu_write, 24,560 for noemathu_check and noemathu_read, 25,104 for the
+   lookups, 35,912 for noemathu_check_proposal, 27,488 for noemathu_write_xml and
+   35,440 for noemathu_normalize. */
 #define NOEMATHU_FEW_ROWS 64
 #define NOEMATHU_SHORT_POOL 4096
 #define NOEMATHU_SMALL_STACK 40960
