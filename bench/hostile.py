@@ -748,6 +748,24 @@ def hidden_names():
     return table
 
 
+def documents():
+    """Documents, and then an element of each: whether it is its document's second one is asked of all rows before it."""
+    table = made(b"")
+    for i in range(ROWS // 2):
+        table.add(9, NONE)
+    for i in range(ROWS // 2):
+        table.add(1, i, local=table.place("a"))
+    return table
+
+
+def documents_by_turns():
+    """Documents and their elements by turns, the element of each standing right behind it."""
+    table = made(b"")
+    for i in range(ROWS // 2):
+        table.add(1, table.add(9, NONE), local=table.place("a"))
+    return table
+
+
 def numbered_scopes():
     """An element that declares NS1, NS2 and so on, and elements inside it that each need the next."""
     table = made(b"")
@@ -781,7 +799,7 @@ NAMES_AND_VALUES = (alike_3072, alike_300, alike_192, alike_short, lengths_mixed
 IN_ROWS = (pairs, pairs_one_bucket, by_turns_far, by_turns_far_undeclared, by_turns_far_each, by_turns_far_deep, by_turns_bare,
            by_turns_references, equal_by_turns_bare, equal_by_turns_far, equal_by_turns_far_deep, equal_by_turns_2047,
            groups_by_turns, same_start_by_turns, hidden, hidden_first, hidden_asked, hidden_names, numbered_scopes,
-           numbered_names)
+           numbered_names, documents, documents_by_turns)
 HOSTILE = NAMES_AND_VALUES + IN_ROWS
 ASKED = IN_ROWS + (alike_300, alike_192, tails, one_hash, quotes_small, refused_at_last)
 
