@@ -1,33 +1,20 @@
 -- What opening the two bundles tells.
 -- Assumes nothing.
 use Prim.Native.Nat.{ℕ, _*_}
-use mathlib.Core.Path.{_≡_, refl, sym, ap, _∙_}
-use mathlib.Core.Bool.{Bool, true, false}
-use mathlib.Core.List.{List, [], _∷_}
-use mathlib.Core.Option.{Option, none, some, Option·none-ne-some}
-use lib.ListN.{length, take, drop}
-use Rattle.rules.specs.Table.{WIDTH, rowCount, nodes}
+use mathlib.Core.Path.{_≡_, refl, _∙_}
+use mathlib.Core.List.{List}
+use mathlib.Core.Option.{none, some}
+use lib.ListN.{take, drop}
+use Rattle.rules.specs.Table.{WIDTH}
 use Rattle.rules.specs.Answers.{numberOf}
-use Rattle.rules.specs.Refusals.{refusedIf, firstRefusal, lowestRefusal, badSize, rowRefusal, checkRefusal}
+use Rattle.rules.specs.Refusals.{checkRefusal}
 use Rattle.rules.specs.declared.Refusal.{Refusal}
 use Rattle.rules.specs.declared.Checked.{Checked}
-use Rattle.rules.proofs.Refusals.{first-alone}
-use Rattle.bundles.specs.Bundles.{poolStart, bundleRefusal, bundleTable, bundlePool}
+use Rattle.bundles.specs.Bundles.{poolStart}
 use Rattle.bundles.specs.Opening.{openingRefusal, Opens}
 use Rattle.proposals.specs.Proposals.{failed, judged, proposalRefusal, proposalChecked, bundleCheckRefusal, bundleProposalChecked}
+use Rattle.bundle_proposals.proofs.Opening.{opening-fails, opened-check, opened-pool}
 use Rattle.bundle_proposals.specs.Opened.{openedChecked}
-
--- What opening refuses fails the check.
-pub opening-fails : (bytes : List ℕ) (x : Refusal) → openingRefusal bytes ≡ some x → bundleCheckRefusal bytes ≡ some x
-unfolding openingRefusal bundleCheckRefusal checkRefusal
-opening-fails bytes x e =
-    go (bundleRefusal bytes) (badSize (bundleTable bytes) (bundlePool bytes))
-    (lowestRefusal (rowRefusal (nodes (bundleTable bytes) (bundlePool bytes)) (length (bundlePool bytes))) (rowCount (bundleTable bytes)) ∷ []) e
-  where
-    go : (o : Option Refusal) (bad : Bool) (later : List (Option Refusal)) → firstRefusal (o ∷ refusedIf bad Refusal.Size ∷ []) ≡ some x → firstRefusal (o ∷ firstRefusal (refusedIf bad Refusal.Size ∷ later) ∷ []) ≡ some x
-    go (some y) bad later e = e
-    go none true later e = e
-    go none false later e = absurd (Option·none-ne-some x e)
 
 -- The original is no bundle, or fails the check: 40.
 pub original-fails : (original proposal : List ℕ) (x : Refusal) → bundleCheckRefusal original ≡ some x → Checked.Refused (Refusal.Original (record { 0 = numberOf x .row }) (numberOf x .word)) ≡ bundleProposalChecked original proposal
@@ -41,21 +28,10 @@ proposal-unopened table pool bytes accepted x e = rw (accepted, opening-fails by
 
 -- A bundle that opens.
 module _ (bytes buffer : List ℕ) (n : ℕ) (opens : Opens bytes buffer n) where
-  opened-check : bundleCheckRefusal bytes ≡ checkRefusal (bundleTable bytes) (bundlePool bytes)
-  unfolding bundleCheckRefusal
-  opened-check = rw (opens .bundle) (sym (first-alone (checkRefusal (bundleTable bytes) (bundlePool bytes))))
-
-  opened-pool : drop (poolStart n) bytes ≡ bundlePool bytes
-  unfolding bundlePool
-  opened-pool = ap (λ k. drop (poolStart k) bytes) (sym (opens .rows))
-
-  pub opened-refused : (table pool : List ℕ) → table ≡ take (WIDTH * n) buffer → pool ≡ drop (poolStart n) bytes → (x : Refusal) → checkRefusal table pool ≡ some x → bundleCheckRefusal bytes ≡ some x
-  opened-refused table pool first rest x e = opened-check ∙ rw (sym (opens .table), sym opened-pool, sym first, sym rest) e
-
-  pub original-open : (proposal rest : List ℕ) → rest ≡ drop (poolStart n) bytes → openedChecked (take (WIDTH * n) buffer) rest proposal ≡ bundleProposalChecked bytes proposal
+  pub original-open : (proposal table rest : List ℕ) → table ≡ take (WIDTH * n) buffer → rest ≡ drop (poolStart n) bytes → openedChecked table rest proposal ≡ bundleProposalChecked bytes proposal
   unfolding bundleProposalChecked
-  original-open proposal rest is = rw (is ∙ opened-pool, opens .table, opened-check) refl
+  original-open proposal table rest first is = rw (first, is ∙ opened-pool bytes buffer n opens, opens .table, opened-check bytes buffer n opens) refl
 
-  pub proposal-open : (table pool rest : List ℕ) → rest ≡ drop (poolStart n) bytes → proposalChecked table pool (take (WIDTH * n) buffer) rest ≡ openedChecked table pool bytes
+  pub proposal-open : (table pool rows rest : List ℕ) → rows ≡ take (WIDTH * n) buffer → rest ≡ drop (poolStart n) bytes → proposalChecked table pool rows rest ≡ openedChecked table pool bytes
   unfolding proposalChecked proposalRefusal
-  proposal-open table pool rest is = rw (is ∙ opened-pool, opens .table, opened-check) refl
+  proposal-open table pool rows rest first is = rw (first, is ∙ opened-pool bytes buffer n opens, opens .table, opened-check bytes buffer n opens) refl

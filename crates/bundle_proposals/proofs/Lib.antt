@@ -1,2 +1,3 @@
-pub mod Bundles
+pub mod Opening
 pub mod Numbering
+pub mod Bundles

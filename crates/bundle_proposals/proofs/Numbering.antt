@@ -20,7 +20,7 @@ use Rattle.proposals.specs.Proposals.{bundleCheckRefusal}
 use Rattle.name_pairs.specs.Noted.{Noted}
 use Rattle.proposal_check.proofs.Order.{accepted, refused}
 use Rattle.bundle_proposals.specs.Numbering.{NotesFor, Numbered, Numbers}
-use Rattle.bundle_proposals.proofs.Bundles.{opened-refused}
+use Rattle.bundle_proposals.proofs.Opening.{opened-refused}
 
 -- New notes are notes for the rows that they were made for.
 pub new-notes : (bytes : List ℕ) (most u : ℕ) → (HEADER ≤ length bytes → bundleRows bytes ≤ MOST-ROWS → bundleRows bytes ≤ most) → NotesFor bytes (replicate (NOTES * most) u)
@@ -63,6 +63,8 @@ module _ (bytes buffer : List ℕ) (n : ℕ) (opens : Opens bytes buffer n) (tab
       λ x e. cc,
     )
 
--- A bundle that is numbered: its rows with its pool.
-pub handed : (bytes buffer notes : List ℕ) (n : ℕ) → Numbered bytes buffer notes n → (pool : List ℕ) → pool ≡ drop (poolStart n) bytes → (checkRefusal (take (WIDTH * n) buffer) pool ≡ none) × Noted (take (WIDTH * n) buffer) pool notes
-handed bytes buffer notes n is pool rest = rw rest (is .accepted, is .noted)
+-- A bundle that is numbered: its rows as a table, with its pool.
+pub handed :
+    (bytes buffer notes : List ℕ) (n : ℕ) → Numbered bytes buffer notes n → (table pool : List ℕ) → table ≡ take (WIDTH * n) buffer → pool ≡ drop (poolStart n) bytes
+    → (checkRefusal table pool ≡ none) × Noted table pool notes
+handed bytes buffer notes n is table pool first rest = rw (first, rest) (is .accepted, is .noted)

@@ -51,7 +51,7 @@ fn check_any(original: &[u8], proposal: &[u8]) -> Checked
     match number_any(original, &mut table, &mut mine) {
         Opened::Rows(n) => {
             let pool = bundle_parts::pool(original, n);
-            check_any_proposal(&table[..rules::WIDTH * n], pool, &mine, proposal)
+            check_any_proposal(bundle_parts::table(&table, n), pool, &mine, proposal)
         }
         Opened::Refused(why) => proposal_check::refuse_original(why),
     }
@@ -66,8 +66,8 @@ fn check_any_proposal(table: &[u32], pool: &[u8], mine: &[u16], proposal: &[u8])
     let mut other = [0; WORDS];
     match bundle_opening::read_rows(proposal, &mut other) {
         Opened::Rows(n) => {
-            let behind = bundle_parts::pool(proposal, n);
-            proposal_check::check_proposal(table, pool, mine, &other[..rules::WIDTH * n], behind)
+            let rows = bundle_parts::table(&other, n);
+            proposal_check::check_proposal(table, pool, mine, rows, bundle_parts::pool(proposal, n))
         }
         Opened::Refused(why) => proposal_check::refuse_proposal(why),
     }
@@ -83,7 +83,7 @@ fn check_few(original: &[u8], proposal: &[u8]) -> Checked
     match number_few(original, &mut table, &mut mine) {
         Opened::Rows(n) => {
             let pool = bundle_parts::pool(original, n);
-            check_few_proposal(&table[..rules::WIDTH * n], pool, &mine, proposal)
+            check_few_proposal(bundle_parts::table(&table, n), pool, &mine, proposal)
         }
         Opened::Refused(why) => proposal_check::refuse_original(why),
     }
@@ -98,8 +98,8 @@ fn check_few_proposal(table: &[u32], pool: &[u8], mine: &[u16], proposal: &[u8])
     let mut other = [0; FEW_WORDS];
     match bundle_opening::read_rows(proposal, &mut other) {
         Opened::Rows(n) => {
-            let behind = bundle_parts::pool(proposal, n);
-            proposal_check::check_few(table, pool, mine, &other[..rules::WIDTH * n], behind)
+            let rows = bundle_parts::table(&other, n);
+            proposal_check::check_few(table, pool, mine, rows, bundle_parts::pool(proposal, n))
         }
         Opened::Refused(why) => proposal_check::refuse_proposal(why),
     }
@@ -116,7 +116,7 @@ fn number_any(bundle: &[u8], table: &mut [u32], notes: &mut [u16]) -> Opened
     match bundle_opening::read_rows(bundle, table) {
         Opened::Rows(n) => {
             let pool = bundle_parts::pool(bundle, n);
-            match row_numbers::check(bundle_parts::table(table, n), pool, notes) {
+            match proposal_check::row_numbers::check(bundle_parts::table(table, n), pool, notes) {
                 Checked::Accepted => Opened::Rows(n),
                 Checked::Refused(why) => Opened::Refused(why),
             }
@@ -134,7 +134,11 @@ fn number_few(bundle: &[u8], table: &mut [u32], notes: &mut [u16]) -> Opened
     match bundle_opening::read_rows(bundle, table) {
         Opened::Rows(n) => {
             let pool = bundle_parts::pool(bundle, n);
-            match row_numbers::check_few(bundle_parts::table(table, n), pool, notes) {
+            match proposal_check::row_numbers::check_few(
+                bundle_parts::table(table, n),
+                pool,
+                notes,
+            ) {
                 Checked::Accepted => Opened::Rows(n),
                 Checked::Refused(why) => Opened::Refused(why),
             }

@@ -1,51 +1,42 @@
 -- What one pass tells of the rows of a table, and what it means for the refusals.
 -- Assumes nothing.
-use Prim.Native.Nat.{ℕ, zero, suc, _+_, _-_, _*_, _≤_, _<_}
+use Prim.Native.Nat.{ℕ, zero, suc, _+_, _*_, _≤_, _<_}
 use mathlib.Core.Path.{_≡_, refl, sym, ap, _∙_, subst}
 use mathlib.Core.Bool.{Bool, true, false, cond, _&&_, _||_, not, and-false}
 use mathlib.Core.List.{List, [], _∷_}
-use mathlib.Core.Option.{Option, none, some}
+use mathlib.Core.Option.{none}
 use native.Mathlib.Omega.{arith}
 use lib.Dec.{eqb, ltb}
-use lib.ListN.{length, set, length-set}
-use borrow.Author.Tests.{eqb-true, eqb-false, ne-eqb, ltb-true, lt-ltb}
+use lib.ListN.{length, set}
+use borrow.Author.Tests.{eqb-true, eqb-false, ltb-true, lt-ltb}
 use Rattle.rules.specs.Lists.{isOneOf, isEmpty, anyOf}
-use Rattle.rules.specs.Table.{NONE, TYPE, PARENT, ELEMENT, ATTRIBUTE, TEXT, DOCUMENT, DECLARATION, LEVEL1-ELEMENT, LEVEL1-ATTRIBUTE, Node, nodes, node, word, rowCount, isElement, isLevel1, ParentRule, allowedParents}
+use Rattle.rules.specs.Table.{NONE, TYPE, PARENT, ELEMENT, ATTRIBUTE, TEXT, DOCUMENT, DECLARATION, LEVEL1-ELEMENT, LEVEL1-ATTRIBUTE, Node, nodes, node, word, rowCount, isElement, isLevel1}
 use Rattle.rules.specs.Refusals.{refusedIf, parentRule, parentAllowed}
 use Rattle.rules.specs.Lookups.{climb, elementsFrom, declares, scopeOf}
 use Rattle.rules.specs.Normalization.{level1Refusal}
 use Rattle.rules.specs.declared.Refusal.{Refusal}
-use Rattle.rules.proofs.Lists.{by-cases, both-true, both-false, not-true, true-not-false, allOf-firstThat}
+use Rattle.rules.proofs.Lists.{by-cases, true-not-false}
 use Rattle.rules.proofs.Table.{length-nodes}
 use Rattle.rules.proofs.Refusals.{none-lowest}
 use Rattle.rules.proofs.Accepted.{Accepted, parent-allowed}
 use Rattle.rows.proofs.Words.{type-word, parent-word}
-use Rattle.notes.specs.Notes.{LATEST, noteAt}
-use Rattle.scopes.specs.Rows.{up, ownerOf}
+use Rattle.scopes.specs.Rows.{up}
 use Rattle.stacks.specs.Stacks.{NUMBERED, underAt, Untouched}
 use Rattle.scopes.specs.Standing.{Standing}
-use Rattle.scopes.proofs.Own.{reach-first}
 use Rattle.scopes.proofs.Changes.{standing-numbered}
-use Rattle.scopes.proofs.Definitions.{tree-accepted}
 use Rattle.bindings.specs.Asking.{elementSettled, attributeSettled}
 use Rattle.markup.specs.Writing.{inSubtree, lowestRow, hasNoMarkup, isUndeclared, nearer, isInherited}
 use Rattle.subtree.proofs.Flags.{in-none}
 use Rattle.inheritance.specs.Tests.{isTop}
 use Rattle.near_rows.specs.Outward.{isLeaf, Near, Noted}
-use Rattle.near_rows.proofs.Outward.{stands-outside, noted-kept, noted-leaf, noted-next, xml-kept}
+use Rattle.near_rows.proofs.Outward.{stands-outside, noted-kept, noted-leaf, noted-next}
 use Rattle.row_meanings.specs.Tests.{isWritable}
 use Rattle.unsettled.specs.Walkable.{Walkable}
-use Rattle.unsettled.proofs.Walking.{is-accepted, few, ready, walkable-kept, walkable-moved, element-is, attribute-is}
+use Rattle.unsettled.proofs.Walking.{is-accepted, few, ready, walkable-moved, element-is, attribute-is}
+use Rattle.unsettled.proofs.Leaves.{attribute-bare, noted-xml, noted-walkable}
 use Rattle.meanings.specs.Names.{undeclared}
 use Rattle.meanings.specs.Writable.{Writable}
 use Rattle.meanings.proofs.Names.{owned}
-
--- No rule lets a row lie in a text or a declaration.
-leafless : (type : ℕ) (rule : ParentRule) → parentRule type ≡ some rule → (isOneOf (rule .parents) TEXT || isOneOf (rule .parents) DECLARATION) ≡ false
-unfolding parentRule
-leafless type rule e =
-    not-true (isOneOf (rule .parents) TEXT || isOneOf (rule .parents) DECLARATION)
-    (allOf-firstThat (λ (line : ParentRule). not (isOneOf (line .parents) TEXT || isOneOf (line .parents) DECLARATION)) (λ (line : ParentRule). eqb (line .type) type) allowedParents {x = rule} refl e)
 
 -- What is writable is of one of these types.
 kind-told : (el at tx dc dm s u : Bool) → cond el s (cond at u ((tx || dc) || dm)) ≡ true → (el || (at || (tx || (dc || (dm || false))))) ≡ true
@@ -62,50 +53,6 @@ module _ {table pool notes tops path : List ℕ} (w : Walkable table pool notes 
 
   inside : {r : ℕ} → r < rowCount table → r < length ns
   inside h = rw (length-nodes table pool) h
-
-  -- A row lies in no leaf.
-  pub parent-inner : (r : ℕ) → r < rowCount table → word table r PARENT < r → isLeaf (word table (word table r PARENT) TYPE) ≡ false
-  unfolding parentAllowed
-  parent-inner r below less = go (parentRule (node ns r .type)) refl
-    where
-      go : (o : Option ParentRule) → parentRule (node ns r .type) ≡ o → isLeaf (word table (word table r PARENT) TYPE) ≡ false
-      go none e = absurd (true-not-false (rw e at (parent-allowed ns (length pool) r (is-accepted w .row r (inside below)))) refl)
-      go (some rule) e =
-          let allowed = both-true (ltb (node ns r .parent) r) (isOneOf (rule .parents) (node ns (node ns r .parent) .type)) (rw (e, ne-eqb (node ns r .parent) NONE (λ z. omega (arith, z, parent-word table pool r below, few w))) at (parent-allowed ns (length pool) r (is-accepted w .row r (inside below)))) .1 in
-          let above : isOneOf (rule .parents) (word table (word table r PARENT) TYPE) ≡ true =
-          subst (λ (k : ℕ). isOneOf (rule .parents) k ≡ true) (ap (λ (k : ℕ). node ns k .type) (parent-word table pool r below) ∙ type-word table pool (word table r PARENT) (omega arith)) allowed in
-          let leaves = both-false (isOneOf (rule .parents) TEXT) (isOneOf (rule .parents) DECLARATION) (leafless (node ns r .type) rule e) in
-          by-cases (eqb (word table (word table r PARENT) TYPE) TEXT)
-          (λ t. absurd (true-not-false (subst (λ (k : ℕ). isOneOf (rule .parents) k ≡ true) (eqb-true (word table (word table r PARENT) TYPE) TEXT t) above) (leaves .0)))
-          (λ t.
-          by-cases (eqb (word table (word table r PARENT) TYPE) DECLARATION)
-          (λ u. absurd (true-not-false (subst (λ (k : ℕ). isOneOf (rule .parents) k ≡ true) (eqb-true (word table (word table r PARENT) TYPE) DECLARATION u) above) (leaves .1)))
-          (λ u. rw (t, u) refl))
-
-  -- What owns a declaration is an element.
-  owner-kind : (r d : ℕ) → r < rowCount table → 0 < d → d ≤ rowCount table → ownerOf table d ≡ r → isElement (node ns r .type) ≡ true
-  unfolding ownerOf
-  owner-kind r d below some-row within owned =
-      let small = few w in
-      let row : d - 1 < rowCount table = omega arith in
-      by-cases (eqb (word table (d - 1) TYPE) DECLARATION && ltb (word table (d - 1) PARENT) (d - 1))
-      (λ t.
-      let kind = eqb-true (word table (d - 1) TYPE) DECLARATION (both-true (eqb (word table (d - 1) TYPE) DECLARATION) (ltb (word table (d - 1) PARENT) (d - 1)) t .0) in
-      let owner : word table (d - 1) PARENT ≡ r = rw t at owned in
-      subst (λ (k : ℕ). isElement (node ns k .type) ≡ true) (parent-word table pool (d - 1) row ∙ owner)
-      (tree-accepted table pool (is-accepted w) .owners (d - 1) (inside row) (type-word table pool (d - 1) row ∙ kind) .1))
-      (λ t. let none : NONE ≡ r = rw t at owned in absurd (omega (arith, none)))
-
-  -- An attribute declares nothing.
-  pub attribute-bare : (r : ℕ) → r < rowCount table → word table r TYPE ≡ ATTRIBUTE → noteAt notes r LATEST ≡ 0
-  attribute-bare r below kind =
-      by-cases (eqb (noteAt notes r LATEST) 0)
-      (λ t. eqb-true (noteAt notes r LATEST) 0 t)
-      (λ t.
-      let some-row = eqb-false (noteAt notes r LATEST) 0 t in
-      let small = few w in
-      let reached = reach-first table r notes (w .linked) (omega arith) (noteAt notes r LATEST) refl in
-      absurd (true-not-false (owner-kind r (noteAt notes r LATEST) below (omega arith) (reached .within) (reached .owned (omega arith))) (rw (type-word table pool r below ∙ kind) refl)))
 
   -- What is told of a row where the arrays stand at it.
   module _ (r : ℕ) (below : r < rowCount table) (standing : isLeaf (word table r TYPE) ≡ false → Standing table notes tops path (r + 1)) (told : isWritable table notes tops path r ≡ true) where
@@ -129,7 +76,7 @@ module _ {table pool notes tops path : List ℕ} (w : Walkable table pool notes 
         by-cases (eqb (word table r TYPE) ATTRIBUTE)
         (λ u.
         let kind = eqb-true (word table r TYPE) ATTRIBUTE u in
-        let here = stands-outside table notes r below (attribute-bare r below kind) tops path (ready w) (standing (rw kind refl)) in
+        let here = stands-outside table notes r below (attribute-bare w r below kind) tops path (ready w) (standing (rw kind refl)) in
         let settled : attributeSettled notes tops path r ≡ true = rw (t, u) at told in
         rw (i, type-word table pool r below, t, u) (ap not (sym (attribute-is w (up table (r + 1)) here r below (rw t refl) t u (owned w e element r below i (type-word table pool r below ∙ kind))) ∙ settled)))
         (λ u. rw (i, type-word table pool r below, t, u) refl)))
@@ -153,23 +100,17 @@ module _ {table pool notes tops path : List ℕ} (w : Walkable table pool notes 
       pub noted-standing : (q : ℕ) → Standing table notes tops path q → Standing table notes tops path′ q
       noted-standing q s = rw is (standing-numbered table notes tops path q (r + 1) n s)
 
-      noted-xml : underAt path′ NUMBERED 0 ≡ underAt path NUMBERED 0
-      noted-xml = ap (λ (l : List ℕ). underAt l NUMBERED 0) is ∙ xml-kept table notes path r noted n
-
       noted-row : Noted table notes path′ (r + 1)
       noted-row = rw is (noted-next table notes path r noted n near (omega (arith, w .placed)))
-
-      pub noted-walkable : Walkable table pool notes tops path′
-      noted-walkable = walkable-kept w tops path′ refl (ap length is ∙ length-set path (4 * (r + 1) + NUMBERED) n) noted-xml
 
       pub approached-there : Standing table notes tops path n → Approached tops path′ n
       approached-there s =
           let standing = noted-standing n s in
-          ((standing, near .low), (λ inner. near .stands tops path′ (ready noted-walkable) standing, (noted-row, noted-xml)))
+          ((standing, near .low), (λ inner. near .stands tops path′ (ready (noted-walkable w r noted n is)) standing, (noted-row, noted-xml w r noted n is)))
 
       pub approached-moved : {tops″ path″ : List ℕ} → length tops″ ≡ length tops → length path″ ≡ length path′ → Standing table notes tops″ path″ n → Untouched path′ path″ → Approached tops″ path″ n
       approached-moved {tops″} {path″} ts ps standing kept =
-          ((standing, near .low), (λ inner. near .stands tops″ path″ (ready (walkable-moved noted-walkable tops″ path″ ts ps kept)) standing, (noted-kept table notes path′ (r + 1) path″ kept noted-row, kept 0 ∙ noted-xml)))
+          ((standing, near .low), (λ inner. near .stands tops″ path″ (ready (walkable-moved (noted-walkable w r noted n is) tops″ path″ ts ps kept)) standing, (noted-kept table notes path′ (r + 1) path″ kept noted-row, kept 0 ∙ noted-xml w r noted n is)))
 
 -- The pass has come to row r.
 pub record Passing (table notes tops₀ path₀ tops path : List ℕ) (position r : ℕ) : Type 0 where

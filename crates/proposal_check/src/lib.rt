@@ -13,7 +13,7 @@ ghost use Rattle.rules.specs.declared.Checked.{Checked};
 ghost use Rattle.notes.specs.Notes.{NOTES};
 ghost use Rattle.table_size.specs.Small.{FEW-ROWS};
 ghost use Rattle.beginning.specs.Ground.{Ground};
-ghost use Rattle.text_refusals.specs.Judging.{Cleared};
+ghost use Rattle.scope_preparation.specs.Arrays.{Cleared};
 ghost use Rattle.proposals.specs.Proposals.{unresolvedRefusal, proposalChecked};
 ghost use Rattle.name_pairs.specs.Noted.{Noted};
 use beginning::Begun;
@@ -21,6 +21,8 @@ use rules::Checked;
 use rules::NameId;
 use rules::Refusal;
 use rules::Row;
+
+pub mod row_numbers;
 
 // The words of the arrays for a small table and for any: path and tops. Up to three names of each row have numbers.
 const SMALL_PATH: usize = stacks::PATH * table_size::FEW_ROWS + stacks::PATH;
@@ -204,8 +206,7 @@ fn check_names(
     requires { ⌜ Cleared (now proposal) (now tops) (now path) ⌝ }
     ensures { λ r. ⌜ ((pool : List ℕ) → Ground (now (proposal .entry)) pool 0 (now (notes .entry)) (xml .0) (120 ∷ 109 ∷ 108 ∷ []) → r ≡ verdict (unresolvedRefusal (nodes (now (proposal .entry)) pool))) ⌝ }
 {
-    stacks::set_xml(path, xml);
-    scopes::link_all(proposal, notes);
+    scope_preparation::prepare(proposal, xml, notes, path);
     resolution::check(proposal, notes, tops, path)
 }
 

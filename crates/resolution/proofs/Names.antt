@@ -19,7 +19,7 @@ use Rattle.near_rows.specs.Outward.{isLeaf, Noted}
 use Rattle.near_rows.proofs.Outward.{stands-outside}
 use Rattle.unsettled.specs.Walkable.{Walkable}
 use Rattle.unsettled.proofs.Walking.{ready, element-is, attribute-is}
-use Rattle.meanings.proofs.Writable.{attribute-bare}
+use Rattle.unsettled.proofs.Leaves.{attribute-bare}
 use Rattle.proposals.specs.Proposals.{isUnresolved}
 use Rattle.proposals.proofs.Scans.{Scanning}
 use Rattle.proposal_names.specs.Tests.{isUnsettled}

@@ -20,7 +20,7 @@ use Rattle.rules.proofs.Table.{length-nodes}
 use Rattle.rules.proofs.Refusals.{first-alone, first-refused, first-passed}
 use Rattle.rows.specs.Reading.{rowOr}
 use Rattle.markup.specs.Writing.{elementToWrite, subtreeRefusal}
-use Rattle.subtree_refusals.specs.Prepared.{Unrefused}
+use Rattle.subtree_refusals.specs.Unrefused.{Unrefused}
 use Rattle.row_refusals.specs.Refused.{rowRefusal}
 
 -- The element that is written is one, and a row.

@@ -4,7 +4,7 @@ ghost use Rattle.rules.specs.Table.{nodes};
 ghost use Rattle.rules.specs.Refusals.{verdict};
 ghost use Rattle.rows.specs.Reading.{rowOr};
 ghost use Rattle.markup.specs.Writing.{elementToWrite};
-ghost use Rattle.subtree_refusals.specs.Prepared.{Prepared};
+ghost use Rattle.unsettled.specs.Walkable.{Prepared};
 ghost use Rattle.row_refusals.specs.Refused.{rowRefusal};
 use rules::Checked;
 use rules::Refusal;

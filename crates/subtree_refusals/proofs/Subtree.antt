@@ -18,11 +18,12 @@ use Rattle.characters.specs.Characters.{holdsForbidden, forbiddenFrom}
 use Rattle.markup.specs.Writing.{inSubtree, lowestRow, hasNoMarkup, isInherited, subtreeRefusal}
 use Rattle.markup_refusals.proofs.Parts.{clean-accepted}
 use Rattle.inheritance.specs.Tests.{isTop}
+use Rattle.unsettled.specs.Walkable.{Prepared}
 use Rattle.unsettled.proofs.Walking.{few, walkable-kept}
 use Rattle.meanings.specs.Names.{undeclared}
 use Rattle.meanings.specs.Writable.{Writable, WritableTo}
 use Rattle.meanings.proofs.Writable.{none-level1, none-unwritten, none-undeclared, none-inherited}
-use Rattle.subtree_refusals.specs.Prepared.{Prepared, Unrefused}
+use Rattle.subtree_refusals.specs.Unrefused.{Unrefused}
 
 module _ {table pool notes tops path : List ℕ} (p : Prepared table pool notes tops path) where
   pub is-accepted : checkRefusal table pool ≡ none

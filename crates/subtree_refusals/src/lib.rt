@@ -7,8 +7,9 @@ ghost use Prim.Native.Nat.{ℕ, _<_};
 ghost use Rattle.rules.specs.Table.{NONE, nodes, node, rowCount, isElement};
 ghost use Rattle.rules.specs.Refusals.{verdict};
 ghost use Rattle.markup.specs.Writing.{subtreeRefusal};
+ghost use Rattle.unsettled.specs.Walkable.{Prepared};
 ghost use Rattle.meanings.specs.Writable.{WritableTo};
-ghost use Rattle.subtree_refusals.specs.Prepared.{Prepared, Unrefused};
+ghost use Rattle.subtree_refusals.specs.Unrefused.{Unrefused};
 use rules::Checked;
 use rules::Row;
 

@@ -1,4 +1,3 @@
--- Outcome: writing, stage by stage. Judging: what a row is refused for. Arrays: those that judging works in.
+-- Outcome: writing, stage by stage. Judging: what a row is refused for.
 pub mod Outcome
 pub mod Judging
-pub mod Arrays

@@ -1,7 +1,8 @@
 // What writing from a row is refused for, whatever the output, behind the check and 8: 9, 20, 21, 23 and 24.
 ghost use mathlib.Core.List.{[], _∷_};
 ghost use Rattle.beginning.specs.Ground.{Ground};
-ghost use Rattle.text_refusals.specs.Judging.{Cleared, WrittenFrom};
+ghost use Rattle.scope_preparation.specs.Arrays.{Cleared};
+ghost use Rattle.text_refusals.specs.Judging.{WrittenFrom};
 use rules::Checked;
 use rules::NameId;
 use rules::Refusal;
@@ -28,8 +29,7 @@ pub fn judge_asked(
     requires { ⌜ Cleared (now table) (now tops) (now path) ⌝ }
     ensures { λ r. ⌜ WrittenFrom (now (table .entry)) (now (pool .entry)) (row .0) r ⌝ }
 {
-    stacks::set_xml(path, xml);
-    scopes::link_all(table, notes);
+    scope_preparation::prepare(table, xml, notes, path);
     let element = subtree::element_to_write(table, row);
     match row_refusals::check(table, pool, row, element, notes, tops, path) {
         Checked::Accepted => Judged::Element(element),

@@ -12,7 +12,7 @@ use Rattle.notes.specs.Notes.{NOTES}
 use Rattle.numbers.specs.Numbers.{Names, Spelling}
 use Rattle.numbers.specs.Noted.{NodeNumbered}
 use Rattle.stacks.specs.Stacks.{TOPS, NUMBERED, underAt}
-use Rattle.scopes.specs.Standing.{Linked}
+use Rattle.scopes.specs.Standing.{Linked, Standing}
 
 -- The table is accepted, its names have numbers, its declarations are linked, and the arrays have room for all of them.
 pub record Walkable (table pool notes tops path : List ℕ) : Type 0 where
@@ -26,3 +26,8 @@ pub record Walkable (table pool notes tops path : List ℕ) : Type 0 where
   pub noted : NOTES * rowCount table ≤ length notes
   pub placed : 4 * rowCount table + 4 ≤ length path
   pub linked : Linked table notes (rowCount table)
+
+-- The same, and the arrays stand at no row.
+pub record Prepared (table pool notes tops path : List ℕ) : Type 0 where
+  pub walkable : Walkable table pool notes tops path
+  pub standing : Standing table notes tops path 0

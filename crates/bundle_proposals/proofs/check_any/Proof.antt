@@ -1,12 +1,10 @@
 -- `check_any` meets its contract.
 -- Assumes nothing.
-use mathlib.Core.Path.{sym, _∙_}
-use native.Mathlib.Omega.{arith}
-use lib.Seq.{length-take-le}
+use mathlib.Core.Path.{_∙_}
 use Rattle.rules.specs.Table.{MOST-ROWS}
 use Rattle.bundles.proofs.Opening.{new-room}
-use Rattle.bundle_proposals.proofs.Bundles.{original-fails, original-open}
 use Rattle.bundle_proposals.proofs.Numbering.{new-notes, handed}
+use Rattle.bundle_proposals.proofs.Bundles.{original-fails, original-open}
 use borrow.Author.Needs.{needs}
 use Rattle.bundle_proposals.proofs.check_any.Statement.{statement}
 use Rattle.bundle_proposals.proofs.check_any.Tie as tie
@@ -18,9 +16,7 @@ slice-aggregate-number-any-2 : tie.Need-slice-aggregate-number-any-2
 slice-aggregate-number-any-2 c = search needs
 
 number-any-requires : tie.Need-number-any-requires
-number-any-requires c κs =
-    let s = c .before .before .before .before in
-    (new-room (s .args .original .now) MOST-ROWS 0 (λ header few. few), new-notes (s .args .original .now) MOST-ROWS 0 (λ header few. few))
+number-any-requires c κs = let s = c .before .before .before .before in (new-room (s .args .original .now) MOST-ROWS 0 (λ header few. few), new-notes (s .args .original .now) MOST-ROWS 0 (λ header few. few))
 
 enum-known-n : tie.Need-enum-known-n
 enum-known-n c = search needs
@@ -28,28 +24,18 @@ enum-known-n c = search needs
 pool-requires : tie.Need-pool-requires
 pool-requires c κs = c .before .before .before .before .before .number-any .ensures .0 _ (c .before .n .given .1) .opens .inside
 
-mul-table : tie.Need-mul-table
-mul-table c =
-    let o = c .before .before .before .before .before .before .number-any .ensures .0 _ (c .before .before .n .given .1) in
-    omega (arith, o .opens .few)
+slice-aggregate-table : tie.Need-slice-aggregate-table
+slice-aggregate-table c = search needs
 
-array-share-prefix-table : tie.Need-array-share-prefix-table
-array-share-prefix-table c =
-    let o = c .before .before .before .before .before .before .number-any .ensures .0 _ (c .before .before .n .given .1) in
-    omega (arith, o .opens .room)
+table-requires : tie.Need-table-requires
+table-requires c κs = c .before .before .before .before .before .before .before .number-any .ensures .0 _ (c .before .before .before .n .given .1) .opens .room
 
 slice-aggregate-check-any-proposal : tie.Need-slice-aggregate-check-any-proposal
-slice-aggregate-check-any-proposal c =
-    let o = c .before .before .before .before .before .before .before .number-any .ensures .0 _ (c .before .before .before .n .given .1) in
-    sym (length-take-le _ _ (omega (arith, o .opens .room)))
-
-slice-aggregate-check-any-proposal-2 : tie.Need-slice-aggregate-check-any-proposal-2
-slice-aggregate-check-any-proposal-2 c = search needs
+slice-aggregate-check-any-proposal c = search needs
 
 check-any-proposal-requires : tie.Need-check-any-proposal-requires
 check-any-proposal-requires c κs =
-    let o = c .before .before .before .before .before .before .before .before .number-any .ensures .0 _ (c .before .before .before .before .n .given .1) in
-    let h = handed _ _ _ _ o _ (c .before .before .pool .ensures) in
+    let h = handed _ _ _ _ (c .before .before .before .before .before .before .before .before .before .number-any .ensures .0 _ (c .before .before .before .before .before .n .given .1)) _ _ (c .before .table4 .ensures) (c .before .before .before .pool .ensures) in
     (h .0, h .1)
 
 enum-known-why : tie.Need-enum-known-why
@@ -60,8 +46,8 @@ refuse-original-requires c κs = search needs
 
 returns : tie.Need-returns
 returns c =
-    let o = c .before .before .before .before .before .before .before .before .before .number-any .ensures .0 _ (c .before .before .before .before .before .n .given .1) in
-    c .check-any-proposal .ensures ∙ original-open _ _ _ (o .opens) (c .before .before .before .before .before .before .before .before .before .before .before .before .before .before .args .proposal .now) _ (c .before .before .before .pool .ensures)
+    let o = c .before .before .before .before .before .before .before .before .before .before .number-any .ensures .0 _ (c .before .before .before .before .before .before .n .given .1) in
+    c .check-any-proposal .ensures ∙ original-open _ _ _ (o .opens) (c .before .before .before .before .before .before .before .before .before .before .before .before .before .before .before .args .proposal .now) _ _ (c .before .before .table4 .ensures) (c .before .before .before .before .pool .ensures)
 
 returns-2 : tie.Need-returns-2
 returns-2 c =
@@ -77,10 +63,9 @@ check-any-spec =
     number-any-requires
     enum-known-n
     pool-requires
-    mul-table
-    array-share-prefix-table
+    slice-aggregate-table
+    table-requires
     slice-aggregate-check-any-proposal
-    slice-aggregate-check-any-proposal-2
     check-any-proposal-requires
     enum-known-why
     refuse-original-requires

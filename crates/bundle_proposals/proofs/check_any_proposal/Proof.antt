@@ -1,9 +1,7 @@
 -- `check_any_proposal` meets its contract.
 -- Assumes nothing.
-use mathlib.Core.Path.{sym, _∙_}
-use native.Mathlib.Omega.{arith}
+use mathlib.Core.Path.{_∙_}
 use denote.Ref.{now}
-use lib.Seq.{length-take-le}
 use Rattle.rules.specs.Table.{MOST-ROWS}
 use Rattle.bundles.specs.Opening.{Opens}
 use Rattle.bundles.proofs.Opening.{new-room}
@@ -25,20 +23,17 @@ read-rows-requires c κs = new-room (c .before .before .before .before .before .
 enum-known-n : tie.Need-enum-known-n
 enum-known-n c = search needs
 
+slice-aggregate-table : tie.Need-slice-aggregate-table
+slice-aggregate-table c = search needs
+
+table-requires : tie.Need-table-requires
+table-requires c κs = opened (c .before) .room
+
 pool-requires : tie.Need-pool-requires
-pool-requires c κs = opened c .inside
-
-mul-other : tie.Need-mul-other
-mul-other c = let few = opened (c .before) .few in omega arith
-
-array-share-prefix-other : tie.Need-array-share-prefix-other
-array-share-prefix-other c = let room = opened (c .before) .room in omega arith
-
-slice-aggregate-check-proposal : tie.Need-slice-aggregate-check-proposal
-slice-aggregate-check-proposal c = let room = opened (c .before .before) .room in sym (length-take-le _ _ (omega arith))
+pool-requires c κs = opened (c .before .before) .inside
 
 check-proposal-requires : tie.Need-check-proposal-requires
-check-proposal-requires c κs = c .before .before .before .before .before .before .before .before .before .before .before .before .pre
+check-proposal-requires c κs = c .before .before .before .before .before .before .before .before .before .before .before .before .before .pre
 
 enum-known-why : tie.Need-enum-known-why
 enum-known-why c = search needs
@@ -47,7 +42,9 @@ refuse-proposal-requires : tie.Need-refuse-proposal-requires
 refuse-proposal-requires c κs = search needs
 
 returns : tie.Need-returns
-returns c = c .check-proposal .ensures ∙ proposal-open _ _ _ (opened (c .before .before .before)) (c .before .before .before .before .before .before .before .before .before .before .before .before .before .args .table .now) (c .before .before .before .before .before .before .before .before .before .before .before .before .before .args .pool .now) _ (c .before .before .pool .ensures)
+returns c =
+    let s = c .before .before .before .before .before .before .before .before .before .before .before .before .before .before in
+    c .check-proposal .ensures ∙ proposal-open _ _ _ (opened (c .before .before .before .before)) (s .args .table .now) (s .args .pool .now) _ _ (c .before .before .table .ensures) (c .before .pool .ensures)
 
 returns-2 : tie.Need-returns-2
 returns-2 c =
@@ -61,10 +58,9 @@ check-any-proposal-spec =
     slice-aggregate-read-rows
     read-rows-requires
     enum-known-n
+    slice-aggregate-table
+    table-requires
     pool-requires
-    mul-other
-    array-share-prefix-other
-    slice-aggregate-check-proposal
     check-proposal-requires
     enum-known-why
     refuse-proposal-requires

@@ -1,12 +1,10 @@
 -- `check_few` meets its contract.
 -- Assumes nothing.
-use mathlib.Core.Path.{sym, _∙_}
-use native.Mathlib.Omega.{arith}
-use lib.Seq.{length-take-le}
+use mathlib.Core.Path.{_∙_}
 use Rattle.table_size.specs.Small.{FEW-ROWS}
 use Rattle.bundles.proofs.Opening.{new-room}
-use Rattle.bundle_proposals.proofs.Bundles.{original-fails, original-open}
 use Rattle.bundle_proposals.proofs.Numbering.{new-notes, handed}
+use Rattle.bundle_proposals.proofs.Bundles.{original-fails, original-open}
 use borrow.Author.Needs.{needs}
 use Rattle.bundle_proposals.proofs.check_few.Statement.{statement}
 use Rattle.bundle_proposals.proofs.check_few.Tie as tie
@@ -18,9 +16,7 @@ slice-aggregate-number-few-2 : tie.Need-slice-aggregate-number-few-2
 slice-aggregate-number-few-2 c = search needs
 
 number-few-requires : tie.Need-number-few-requires
-number-few-requires c κs =
-    let s = c .before .before .before .before in
-    (s .pre .0, (new-room (s .args .original .now) FEW-ROWS 0 (λ header few. s .pre .0 header), new-notes (s .args .original .now) FEW-ROWS 0 (λ header few. s .pre .0 header)))
+number-few-requires c κs = let s = c .before .before .before .before in (s .pre .0, (new-room (s .args .original .now) FEW-ROWS 0 (λ header few. s .pre .0 header), new-notes (s .args .original .now) FEW-ROWS 0 (λ header few. s .pre .0 header)))
 
 enum-known-n : tie.Need-enum-known-n
 enum-known-n c = search needs
@@ -28,30 +24,19 @@ enum-known-n c = search needs
 pool-requires : tie.Need-pool-requires
 pool-requires c κs = c .before .before .before .before .before .number-few .ensures .0 _ (c .before .n .given .1) .opens .inside
 
-mul-table : tie.Need-mul-table
-mul-table c =
-    let o = c .before .before .before .before .before .before .number-few .ensures .0 _ (c .before .before .n .given .1) in
-    omega (arith, o .opens .few)
+slice-aggregate-table : tie.Need-slice-aggregate-table
+slice-aggregate-table c = search needs
 
-array-share-prefix-table : tie.Need-array-share-prefix-table
-array-share-prefix-table c =
-    let o = c .before .before .before .before .before .before .number-few .ensures .0 _ (c .before .before .n .given .1) in
-    omega (arith, o .opens .room)
+table-requires : tie.Need-table-requires
+table-requires c κs = c .before .before .before .before .before .before .before .number-few .ensures .0 _ (c .before .before .before .n .given .1) .opens .room
 
 slice-aggregate-check-few-proposal : tie.Need-slice-aggregate-check-few-proposal
-slice-aggregate-check-few-proposal c =
-    let o = c .before .before .before .before .before .before .before .number-few .ensures .0 _ (c .before .before .before .n .given .1) in
-    sym (length-take-le _ _ (omega (arith, o .opens .room)))
-
-slice-aggregate-check-few-proposal-2 : tie.Need-slice-aggregate-check-few-proposal-2
-slice-aggregate-check-few-proposal-2 c = search needs
+slice-aggregate-check-few-proposal c = search needs
 
 check-few-proposal-requires : tie.Need-check-few-proposal-requires
 check-few-proposal-requires c κs =
-    let s = c .before .before .before .before .before .before .before .before .before .before .before .before .before in
-    let o = c .before .before .before .before .before .before .before .before .number-few .ensures .0 _ (c .before .before .before .before .n .given .1) in
-    let h = handed _ _ _ _ o _ (c .before .before .pool .ensures) in
-    ((s .pre .1, h .0), h .1)
+    let h = handed _ _ _ _ (c .before .before .before .before .before .before .before .before .before .number-few .ensures .0 _ (c .before .before .before .before .before .n .given .1)) _ _ (c .before .table4 .ensures) (c .before .before .before .pool .ensures) in
+    ((c .before .before .before .before .before .before .before .before .before .before .before .before .before .before .pre .1, h .0), h .1)
 
 enum-known-why : tie.Need-enum-known-why
 enum-known-why c = search needs
@@ -61,8 +46,8 @@ refuse-original-requires c κs = search needs
 
 returns : tie.Need-returns
 returns c =
-    let o = c .before .before .before .before .before .before .before .before .before .number-few .ensures .0 _ (c .before .before .before .before .before .n .given .1) in
-    c .check-few-proposal .ensures ∙ original-open _ _ _ (o .opens) (c .before .before .before .before .before .before .before .before .before .before .before .before .before .before .args .proposal .now) _ (c .before .before .before .pool .ensures)
+    let o = c .before .before .before .before .before .before .before .before .before .before .number-few .ensures .0 _ (c .before .before .before .before .before .before .n .given .1) in
+    c .check-few-proposal .ensures ∙ original-open _ _ _ (o .opens) (c .before .before .before .before .before .before .before .before .before .before .before .before .before .before .before .args .proposal .now) _ _ (c .before .before .table4 .ensures) (c .before .before .before .before .pool .ensures)
 
 returns-2 : tie.Need-returns-2
 returns-2 c =
@@ -78,10 +63,9 @@ check-few-spec =
     number-few-requires
     enum-known-n
     pool-requires
-    mul-table
-    array-share-prefix-table
+    slice-aggregate-table
+    table-requires
     slice-aggregate-check-few-proposal
-    slice-aggregate-check-few-proposal-2
     check-few-proposal-requires
     enum-known-why
     refuse-original-requires

@@ -1,12 +1,11 @@
 -- `check_few_proposal` meets its contract.
 -- Assumes nothing.
-use mathlib.Core.Path.{sym, _∙_}
-use native.Mathlib.Omega.{arith}
+use mathlib.Core.Path.{_∙_}
 use denote.Ref.{now}
-use lib.Seq.{length-take-le}
-use Rattle.bundles.specs.Opening.{Opens}
 use Rattle.table_size.specs.Small.{FEW-ROWS}
-use Rattle.bundles.proofs.Opening.{new-room, opened-few}
+use Rattle.bundles.specs.Opening.{Opens}
+use Rattle.bundles.proofs.Opening.{new-room}
+use Rattle.bundle_proposals.proofs.Numbering.{few-rows}
 use Rattle.bundle_proposals.proofs.Bundles.{proposal-unopened, proposal-open}
 use borrow.Author.Needs.{needs}
 use Rattle.bundle_proposals.proofs.check_few_proposal.Statement.{statement}
@@ -25,22 +24,17 @@ read-rows-requires c κs = new-room (c .before .before .before .before .before .
 enum-known-n : tie.Need-enum-known-n
 enum-known-n c = search needs
 
+slice-aggregate-table : tie.Need-slice-aggregate-table
+slice-aggregate-table c = search needs
+
+table-requires : tie.Need-table-requires
+table-requires c κs = opened (c .before) .room
+
 pool-requires : tie.Need-pool-requires
-pool-requires c κs = opened c .inside
-
-mul-other : tie.Need-mul-other
-mul-other c = let few = opened (c .before) .few in omega arith
-
-array-share-prefix-other : tie.Need-array-share-prefix-other
-array-share-prefix-other c = let room = opened (c .before) .room in omega arith
-
-slice-aggregate-check-few : tie.Need-slice-aggregate-check-few
-slice-aggregate-check-few c = let room = opened (c .before .before) .room in sym (length-take-le _ _ (omega arith))
+pool-requires c κs = opened (c .before .before) .inside
 
 check-few-requires : tie.Need-check-few-requires
-check-few-requires c κs =
-    let s = c .before .before .before .before .before .before .before .before .before .before .before .before in
-    ((s .pre .0 .1, opened-few _ _ _ (opened (c .before .before)) FEW-ROWS (s .pre .0 .0)), s .pre .1)
+check-few-requires c κs = let s = c .before .before .before .before .before .before .before .before .before .before .before .before .before in ((s .pre .0 .1, few-rows _ _ _ (opened (c .before .before .before)) _ (c .before .table .ensures) FEW-ROWS (s .pre .0 .0)), s .pre .1)
 
 enum-known-why : tie.Need-enum-known-why
 enum-known-why c = search needs
@@ -49,7 +43,9 @@ refuse-proposal-requires : tie.Need-refuse-proposal-requires
 refuse-proposal-requires c κs = search needs
 
 returns : tie.Need-returns
-returns c = c .check-few .ensures ∙ proposal-open _ _ _ (opened (c .before .before .before)) (c .before .before .before .before .before .before .before .before .before .before .before .before .before .args .table .now) (c .before .before .before .before .before .before .before .before .before .before .before .before .before .args .pool .now) _ (c .before .before .pool .ensures)
+returns c =
+    let s = c .before .before .before .before .before .before .before .before .before .before .before .before .before .before in
+    c .check-few .ensures ∙ proposal-open _ _ _ (opened (c .before .before .before .before)) (s .args .table .now) (s .args .pool .now) _ _ (c .before .before .table .ensures) (c .before .pool .ensures)
 
 returns-2 : tie.Need-returns-2
 returns-2 c =
@@ -63,10 +59,9 @@ check-few-proposal-spec =
     slice-aggregate-read-rows
     read-rows-requires
     enum-known-n
+    slice-aggregate-table
+    table-requires
     pool-requires
-    mul-other
-    array-share-prefix-other
-    slice-aggregate-check-few
     check-few-requires
     enum-known-why
     refuse-proposal-requires

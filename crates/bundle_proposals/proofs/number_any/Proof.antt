@@ -1,7 +1,7 @@
 -- `number_any` meets its contract.
 -- Assumes nothing.
 use Rattle.rules.proofs.Lists.{not-true}
-use Rattle.bundle_proposals.proofs.Bundles.{opening-fails}
+use Rattle.bundle_proposals.proofs.Opening.{opening-fails}
 use Rattle.bundle_proposals.proofs.Numbering.{notes-room, fails, check-fails, numbered}
 use borrow.Author.Needs.{needs}
 use Rattle.bundle_proposals.proofs.number_any.Statement.{statement}

@@ -1,7 +1,7 @@
 -- `number_few` meets its contract.
 -- Assumes nothing.
 use Rattle.table_size.specs.Small.{FEW-ROWS}
-use Rattle.bundle_proposals.proofs.Bundles.{opening-fails}
+use Rattle.bundle_proposals.proofs.Opening.{opening-fails}
 use Rattle.bundle_proposals.proofs.Numbering.{few-rows, notes-room, fails, check-fails, numbered}
 use borrow.Author.Needs.{needs}
 use Rattle.bundle_proposals.proofs.number_few.Statement.{statement}

@@ -9,7 +9,8 @@ use Rattle.stacks.specs.Stacks.{PATH, NUMBERED}
 use Rattle.scopes.specs.Standing.{Standing}
 use Rattle.near_rows.specs.Outward.{isLeaf}
 use Rattle.unsettled.proofs.Walking.{few, ready}
-use Rattle.meanings.proofs.Writable.{parent-inner, approached-leaf, noted-standing, noted-walkable, approached-there, approached-moved}
+use Rattle.unsettled.proofs.Leaves.{parent-inner, noted-walkable}
+use Rattle.meanings.proofs.Writable.{approached-leaf, noted-standing, approached-there, approached-moved}
 use Rattle.meanings.proofs.approach.Statement.{statement}
 use Rattle.meanings.proofs.approach.Tie as tie
 
@@ -53,7 +54,7 @@ go-requires c κs =
     let nearest = c .before .before .before .before .before .before .before .before .before .before .nearest in
     let noted = (c .before .before .before .before .before .before .before .set-beside .ensures ∙ ap (λ (k : ℕ). set (s .args .path .now) (PATH * k + NUMBERED) (nearest .result .0)) (c .before .before .before .before .before .before .before .before .position-of .ensures)) in
     let w = s .pre .0 .1 in
-    (ready (noted-walkable w (s .args .row .0) (s .pre .1 .1 .0) (s .pre .1 .1 .1) (nearest .result .0) (nearest .ensures) noted), ((s .pre .1 .0 .1, nearest .ensures .low), noted-standing w (s .args .row .0) (s .pre .1 .1 .0) (s .pre .1 .1 .1) (nearest .result .0) (nearest .ensures) noted (s .args .from .0) (s .pre .1 .0 .0)))
+    (ready (noted-walkable w (s .args .row .0) (s .pre .1 .1 .1) (nearest .result .0) noted), ((s .pre .1 .0 .1, nearest .ensures .low), noted-standing w (s .args .row .0) (s .pre .1 .1 .0) (s .pre .1 .1 .1) (nearest .result .0) (nearest .ensures) noted (s .args .from .0) (s .pre .1 .0 .0)))
 
 same-length-2 : tie.Need-same-length-2
 same-length-2 c = search needs

@@ -2,7 +2,7 @@
 -- Assumes nothing.
 use native.Mathlib.Omega.{arith}
 use Rattle.rules.specs.Table.{MOST-ROWS}
-use Rattle.row_numbers.proofs.Noting.{new-notes}
+use Rattle.proposal_check.proofs.NotesKept.{new-notes}
 use borrow.Author.Needs.{needs}
 use Rattle.proposal_check.proofs.check.Statement.{statement}
 use Rattle.proposal_check.proofs.check.Tie as tie

@@ -2,7 +2,7 @@
 -- Assumes nothing.
 use mathlib.Core.Path.{_∙_}
 use native.Mathlib.Omega.{arith}
-use Rattle.text_refusals.proofs.Arrays.{zeros-blank, zeros-cleared}
+use Rattle.scope_preparation.proofs.Arrays.{zeros-blank, zeros-cleared}
 use Rattle.proposal_check.proofs.Order.{lookup-refused, proposal-fails}
 use borrow.Author.Needs.{needs}
 use Rattle.proposal_check.proofs.check_any.Statement.{statement}

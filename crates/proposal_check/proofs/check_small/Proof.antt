@@ -1,7 +1,7 @@
 -- `check_small` meets its contract.
 -- Assumes nothing.
 use Rattle.table_size.specs.Small.{FEW-ROWS}
-use Rattle.row_numbers.proofs.Noting.{new-notes}
+use Rattle.proposal_check.proofs.NotesKept.{new-notes}
 use borrow.Author.Needs.{needs}
 use Rattle.proposal_check.proofs.check_small.Statement.{statement}
 use Rattle.proposal_check.proofs.check_small.Tie as tie

@@ -9,7 +9,7 @@ use Rattle.stacks.specs.Stacks.{PATH, NUMBERED, underAt}
 use Rattle.scopes.proofs.Changes.{standing-numbered}
 use Rattle.near_rows.proofs.Outward.{noted-next, xml-kept}
 use Rattle.unsettled.proofs.Walking.{few, ready}
-use Rattle.meanings.proofs.Writable.{parent-inner, noted-walkable}
+use Rattle.unsettled.proofs.Leaves.{parent-inner, noted-walkable}
 use borrow.Author.Needs.{needs}
 use Rattle.resolution.proofs.note_nearest.Statement.{statement}
 use Rattle.resolution.proofs.note_nearest.Tie as tie
@@ -40,7 +40,7 @@ returns c =
     let is = c .before .before .set-beside .ensures ∙ ap (λ (k : ℕ). set path (PATH * k + NUMBERED) (nearest .result .0)) (c .before .before .before .position-of .ensures) in (
       nearest .ensures,
       (
-        λ pool tops w. noted-walkable w r (s .pre .1 .0) (s .pre .1 .1) (nearest .result .0) (nearest .ensures) is,
+        λ pool tops w. noted-walkable w r (s .pre .1 .1) (nearest .result .0) is,
         (
           λ tops q standing. rw is (standing-numbered t notes tops path q (r + 1) (nearest .result .0) standing),
           (rw is (noted-next t notes path r (s .pre .1 .1) (nearest .result .0) (nearest .ensures) (omega (arith, s .pre .0 .2 .placed, s .pre .1 .0))), ap (λ (l : List ℕ). underAt l NUMBERED 0) is ∙ xml-kept t notes path r (s .pre .1 .1) (nearest .result .0)),

@@ -2,9 +2,9 @@
 -- Assumes nothing.
 use borrow.Author.Needs.{needs}
 use Rattle.table_size.specs.Small.{FEW-ROWS}
-use Rattle.row_numbers.proofs.Noting.{lent, named-noted}
-use Rattle.row_numbers.proofs.check_few.Statement.{statement}
-use Rattle.row_numbers.proofs.check_few.Tie as tie
+use Rattle.proposal_check.proofs.NotesKept.{lent, named-noted}
+use Rattle.proposal_check.proofs.row_numbers.check_few.Statement.{statement}
+use Rattle.proposal_check.proofs.row_numbers.check_few.Tie as tie
 
 slice-aggregate-check-numbered : tie.Need-slice-aggregate-check-numbered
 slice-aggregate-check-numbered c = search needs

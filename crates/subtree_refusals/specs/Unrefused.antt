@@ -1,4 +1,4 @@
--- The arrays in which the refusals of a subtree are found, and a table that draws none.
+-- A table that draws no refusal where one of its elements is written.
 use Prim.Native.Nat.{ℕ, _<_}
 use mathlib.Core.Path.{_≡_}
 use mathlib.Core.Bool.{true}
@@ -6,14 +6,7 @@ use mathlib.Core.List.{List}
 use mathlib.Core.Option.{none, some}
 use Rattle.rules.specs.Table.{nodes, node, rowCount, isElement}
 use Rattle.rules.specs.Normalization.{level1Refusal}
-use Rattle.scopes.specs.Standing.{Standing}
 use Rattle.markup.specs.Writing.{subtreeRefusal}
-use Rattle.unsettled.specs.Walkable.{Walkable}
-
--- The check accepts the table, its names and xml have numbers, its declarations are linked, and the arrays stand at no row.
-pub record Prepared (table pool notes tops path : List ℕ) : Type 0 where
-  pub walkable : Walkable table pool notes tops path
-  pub standing : Standing table notes tops path 0
 
 -- No row draws 9, and the subtree of row e, if that is an element, none of 20 to 24 but 22.
 pub record Unrefused (table pool : List ℕ) (e : ℕ) : Type 0 where

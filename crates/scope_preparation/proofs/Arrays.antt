@@ -1,4 +1,4 @@
--- The arrays that judging works in.
+-- Arrays that are cleared.
 -- Assumes nothing.
 use Prim.Native.Nat.{ℕ, zero, suc, _+_, _*_, _≤_}
 use mathlib.Core.Path.{_≡_, refl, sym, ap}
@@ -8,7 +8,7 @@ use Rattle.rules.specs.Table.{MOST-ROWS, rowCount}
 use Rattle.notes.specs.Notes.{NOTES}
 use Rattle.stacks.specs.Stacks.{TOPS}
 use Rattle.beginning.specs.Ground.{Blank}
-use Rattle.text_refusals.specs.Judging.{Cleared}
+use Rattle.scope_preparation.specs.Arrays.{Cleared}
 
 zeros : (size i : ℕ) → _≡_ {A = ℕ} (getD (replicate size 0) i 0) 0
 zeros zero i = refl

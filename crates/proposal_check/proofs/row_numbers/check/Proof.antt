@@ -2,10 +2,10 @@
 -- Assumes nothing.
 use native.Mathlib.Omega.{arith}
 use Rattle.rules.specs.Table.{MOST-ROWS}
-use Rattle.row_numbers.proofs.Noting.{lent, named-noted}
+use Rattle.proposal_check.proofs.NotesKept.{lent, named-noted}
 use borrow.Author.Needs.{needs}
-use Rattle.row_numbers.proofs.check.Statement.{statement}
-use Rattle.row_numbers.proofs.check.Tie as tie
+use Rattle.proposal_check.proofs.row_numbers.check.Statement.{statement}
+use Rattle.proposal_check.proofs.row_numbers.check.Tie as tie
 
 row-count-requires : tie.Need-row-count-requires
 row-count-requires c κs = search needs
