@@ -1,6 +1,6 @@
 -- What acceptance gives: demand 3's first part, that nothing but declarations is added, and that normalization changes nothing.
 -- Assumes nothing.
-use Prim.Native.Nat.{ℕ, zero, suc, _≤_, _<_}
+use Prim.Native.Nat.{ℕ, zero, suc, _/_, _≤_, _<_}
 use mathlib.Core.Path.{_≡_, refl, sym, ap, _∙_}
 use mathlib.Core.Bool.{Bool, true, false}
 use mathlib.Core.List.{List, [], _∷_}
@@ -9,11 +9,11 @@ use native.Mathlib.Nat.{le-refl, lt-of-lt-of-le}
 use native.Mathlib.Omega.{arith}
 use lib.ListN.{length}
 use lib.Dec.{eqb, ltb, leb}
-use borrow.Author.Tests.{eqb-true, eq-eqb, ne-eqb, ltb-true, ltb-false, le-leb}
-use Rattle.rules.specs.Table.{MOST-ROWS, NONE, ELEMENT, ATTRIBUTE, DECLARATION, Node, nodes, node, isLevel1}
+use borrow.Author.Tests.{eqb-true, eq-eqb, ne-eqb, ltb-true, ltb-false, le-ltb, le-leb}
+use Rattle.rules.specs.Table.{WIDTH, MOST-ROWS, MOST-BYTES, NONE, ELEMENT, ATTRIBUTE, DECLARATION, Node, nodes, node, isLevel1}
 use Rattle.rules.specs.Refusals.{refusedIf, firstRefusal, checkRefusal}
 use Rattle.rules.specs.Lookups.{scopeAt}
-use Rattle.rules.specs.Normalization.{State, repairElement, repairOf, keep, isAttributeOf, repairAttribute, repairAttributes, normalizeRow, normalizeRows, normalForm}
+use Rattle.rules.specs.Normalization.{State, repairElement, repairOf, keep, isAttributeOf, repairAttribute, repairAttributes, normalizeRow, normalizeRows, normalForm, tooManyRows, tooManyBytes, level1Refusal, roomRefusal, normalizationRefusal, normalized}
 use Rattle.rules.specs.Demands.{elementMeans, attributeMeansIn, attributeMeans, means, isBound, KeepsMeaning}
 use Rattle.rules.specs.declared.Row.{Row}
 use Rattle.rules.specs.declared.Refusal.{Refusal}
@@ -31,6 +31,7 @@ use Rattle.proposals.specs.Demands.{ProposalMeaning, ProposalAdds, Propo
 pub record Good (table pool table′ pool′ : List ℕ) : Type 0 where
   pub original : checkRefusal table pool ≡ none
   pub proposal : checkRefusal table′ pool′ ≡ none
+  pub level2 : levelRefusal (nodes table′ pool′) ≡ none
   pub kept : (r : ℕ) → r < length (nodes table pool) → isChanged (nodes table pool) (nodes table′ pool′) r ≡ false
   pub further : (r : ℕ) → r < length (nodes table′ pool′) → isForeign (nodes table pool) (nodes table′ pool′) r ≡ false
   pub resolved : (r : ℕ) → r < length (nodes table′ pool′) → isUnresolved (nodes table′ pool′) r ≡ false
@@ -80,6 +81,7 @@ good table pool table′ pool′ e =
     record {
       original = not-failed Refusal.Original (checkRefusal table pool) (a .0);
       proposal = not-failed Refusal.Proposal (checkRefusal table′ pool′) (a .1 .0);
+      level2 = a .1 .1 .1 .0;
       kept = none-below (isChanged ns ms) Refusal.Changed (length ns) (kept .0);
       further = none-below (isForeign ns ms) Refusal.Changed (length ms) (kept .1 .0);
       resolved = none-below (isUnresolved ms) Refusal.Unresolved (length ms) (a .1 .1 .1 .1 .1 .0);
@@ -186,10 +188,37 @@ pub proposal-adds : ProposalAdds
 proposal-adds table pool table′ pool′ e =
     let g = good table pool table′ pool′ e in (longer table pool table′ pool′ g, declarations table pool table′ pool′ g)
 
-pub proposal-normal : ProposalNormal
+form-stays : (table pool table′ pool′ : List ℕ) → Good table pool table′ pool′ → normalForm (nodes table′ pool′) pool′ ≡ record { rows = nodes table′ pool′; pool = pool′ }
 unfolding normalForm
-proposal-normal table pool table′ pool′ e =
-    let g = good table pool table′ pool′ e in
+form-stays table pool table′ pool′ g =
     let a = unrefused table′ pool′ (g .proposal) in
     let few : length (nodes table′ pool′) ≤ MOST-ROWS = rw (length-nodes table′ pool′) (few-rows table′ pool′ (a .size)) in
     rows-stay table′ pool′ a (bound-means table pool table′ pool′ g) (length (nodes table′ pool′)) (le-refl (length (nodes table′ pool′))) (omega arith)
+
+-- 9 of normalization, where 42 of the proposal is not drawn.
+level2-rows : (ms : List Node) → levelRefusal ms ≡ none → level1Refusal ms ≡ none
+unfolding level1Refusal
+level2-rows ms level2 =
+    none-lowest (λ (r : ℕ). refusedIf (isLevel1 (node ms r .type)) (Refusal.Level1 (record { 0 = r }))) (length ms)
+    (λ r i. rw (none-below (isLevel1Row ms) Refusal.ProposalLevel1 (length ms) level2 r i) refl)
+
+-- 10 and 11, where there is room.
+room-there : (tableSize poolSize : ℕ) (s : State) → length (s .rows) ≤ MOST-ROWS → length (s .pool) ≤ MOST-BYTES → length (s .rows) ≤ tableSize / WIDTH → length (s .pool) ≤ poolSize → roomRefusal tableSize poolSize s ≡ none
+unfolding roomRefusal tooManyRows tooManyBytes
+room-there tableSize poolSize s few short rows bytes =
+    rw (le-ltb MOST-ROWS (length (s .rows)) few, le-ltb (tableSize / WIDTH) (length (s .rows)) rows, le-ltb MOST-BYTES (length (s .pool)) short, le-ltb poolSize (length (s .pool)) bytes)
+    refl
+
+pub proposal-normal : ProposalNormal
+unfolding normalized normalizationRefusal
+proposal-normal table pool table′ pool′ e tableSize poolSize rows bytes =
+    let g = good table pool table′ pool′ e in
+    let size = unrefused table′ pool′ (g .proposal) .size in
+    let few : length (nodes table′ pool′) ≤ MOST-ROWS = rw (length-nodes table′ pool′) (few-rows table′ pool′ size) in
+    rw (
+      g .proposal,
+      level2-rows (nodes table′ pool′) (g .level2),
+      form-stays table pool table′ pool′ g,
+      room-there tableSize poolSize (record { rows = nodes table′ pool′; pool = pool′ }) few (size .poolBound) rows bytes,
+    )
+    refl

@@ -1,11 +1,11 @@
 -- What acceptance gives, and that normalization's own results are accepted.
-use Prim.Native.Nat.{ℕ, _≤_, _<_}
+use Prim.Native.Nat.{ℕ, _/_, _≤_, _<_}
 use mathlib.Core.Path.{_≡_}
 use mathlib.Core.List.{List}
 use lib.ListN.{length}
 use lib.Dec.{T}
-use Rattle.rules.specs.Table.{DECLARATION, nodes, node}
-use Rattle.rules.specs.Normalization.{normalForm, normalized}
+use Rattle.rules.specs.Table.{WIDTH, DECLARATION, nodes, node}
+use Rattle.rules.specs.Normalization.{success, normalized}
 use Rattle.rules.specs.Demands.{succeeded, resultTable, resultPool, isBound, KeepsMeaning}
 use Rattle.rules.specs.declared.Checked.{Checked}
 use Rattle.proposals.specs.Proposals.{proposalChecked}
@@ -31,8 +31,9 @@ ProposalAdds =
     (length (nodes table pool) ≤ length (nodes table′ pool′))
     × ((r : ℕ) → length (nodes table pool) ≤ r → r < length (nodes table′ pool′) → node (nodes table′ pool′) r .type ≡ DECLARATION)
 
--- Normalization leaves an accepted proposal as it is.
+-- Normalization, given the room, leaves an accepted proposal as it is: the outputs are its rows and its pool.
 abbrev pub ProposalNormal : Type 0
 ProposalNormal =
     (table pool table′ pool′ : List ℕ) → proposalChecked table pool table′ pool′ ≡ Checked.Accepted →
-    normalForm (nodes table′ pool′) pool′ ≡ record { rows = nodes table′ pool′; pool = pool′ }
+    (tableSize poolSize : ℕ) → length (nodes table′ pool′) ≤ tableSize / WIDTH → length pool′ ≤ poolSize →
+    normalized table′ pool′ tableSize poolSize ≡ success tableSize poolSize (record { rows = nodes table′ pool′; pool = pool′ })
