@@ -244,7 +244,7 @@ module _ (table pool : List ℕ) (a : Accepted table pool) where
   standing = standing-rows base (length base) (record { rows = base; pool = pool }) (le-refl (length base)) standing-start
 
 -- Two lists whose first rows pass two tests alike.
-any-alike : {A : Type 0} (test other : A → Bool) (d : A) (r : ℕ) (xs ys : List A) → r ≤ length xs → r ≤ length ys → ((i : ℕ) → i < r → test (getD xs i d) ≡ other (getD ys i d)) → anyOf test (take r xs) ≡ anyOf other (take r ys)
+pub any-alike : {A : Type 0} (test other : A → Bool) (d : A) (r : ℕ) (xs ys : List A) → r ≤ length xs → r ≤ length ys → ((i : ℕ) → i < r → test (getD xs i d) ≡ other (getD ys i d)) → anyOf test (take r xs) ≡ anyOf other (take r ys)
 any-alike test other d zero xs ys h k e = refl
 any-alike test other d (suc r) [] ys h k e = absurd (not-suc-le-zero h)
 any-alike test other d (suc r) (x ∷ xs) [] h k e = absurd (not-suc-le-zero k)

@@ -27,11 +27,11 @@ forget n =
       value = forgetField (n .value);
     }
 
-abbrev forgetFound : Option Node → Option Node
+abbrev pub forgetFound : Option Node → Option Node
 forgetFound none = none
 forgetFound (some d) = some (forget d)
 
-abbrev forgetBinding : Binding → Binding
+abbrev pub forgetBinding : Binding → Binding
 forgetBinding (declared f) = declared (forgetField f)
 forgetBinding builtInXml = builtInXml
 forgetBinding builtInXmlns = builtInXmlns
@@ -46,7 +46,7 @@ forgetRepair (makeNumbered bytes) = makeNumbered bytes
 
 -- A test that does not look at places.
 module _ (test test′ : Node → Bool) (same : (n : Node) → test′ (forget n) ≡ test n) where
-  firstThat-forget : (ns : List Node) → firstThat test′ (map forget ns) ≡ forgetFound (firstThat test ns)
+  pub firstThat-forget : (ns : List Node) → firstThat test′ (map forget ns) ≡ forgetFound (firstThat test ns)
   firstThat-forget [] = refl
   firstThat-forget (n ∷ ns) =
       by-cases (test n)
@@ -73,7 +73,7 @@ uri-forget scope prefix =
     rw (q, t, firstThat-forget (declares prefix) (declares prefix) (λ n. refl) scope)
     (value-forget (firstThat (declares prefix) scope))))
 
-bytes-forget : (b : Binding) → uriBytes (forgetBinding b) ≡ uriBytes b
+pub bytes-forget : (b : Binding) → uriBytes (forgetBinding b) ≡ uriBytes b
 bytes-forget (declared f) = refl
 bytes-forget builtInXml = refl
 bytes-forget builtInXmlns = refl
@@ -91,7 +91,7 @@ prefix-found-forget : (o : Option Node) → prefixOf (forgetFound o) ≡ forgetB
 prefix-found-forget none = refl
 prefix-found-forget (some d) = refl
 
-prefix-forget : (scope : List Node) (uri : List ℕ) → inScopePrefix (map forget scope) uri ≡ forgetBinding (inScopePrefix scope uri)
+pub prefix-forget : (scope : List Node) (uri : List ℕ) → inScopePrefix (map forget scope) uri ≡ forgetBinding (inScopePrefix scope uri)
 unfolding inScopePrefix
 prefix-forget scope uri =
     by-cases (isEmpty uri)

@@ -27,10 +27,10 @@ use Rattle.rules.proofs.Accepted.{Accepted, FieldAccepted, fields-accep
 use Rattle.rules.proofs.Repairs.{declared-by}
 
 -- The field's bytes are those of the pool where it says.
-pub inPool : List ℕ → Field → Bool
+unfoldable pub inPool : List ℕ → Field → Bool
 inPool pool f = leb (f .offset + f .size) (length pool) && sameBytes (f .bytes) (part pool (f .offset) (f .size))
 
-pub fitsIn : List ℕ → Node → Bool
+unfoldable pub fitsIn : List ℕ → Node → Bool
 fitsIn pool n = inPool pool (n .prefix) && (inPool pool (n .local) && (inPool pool (n .uri) && inPool pool (n .value)))
 
 record Fits (pool : List ℕ) (n : Node) : Type 0 where
