@@ -47,7 +47,7 @@ pub fn write_bundle(table: &[u32], pool: &[u8], out: &mut [u8]) -> Written
 }
 
 // Writes the bytes before the rows.
-fn write_header(rows: u32, bytes: u32, out: &mut [u8])
+pub fn write_header(rows: u32, bytes: u32, out: &mut [u8])
     requires { ⌜ HEADER ≤ length (now out) ⌝ }
     ensures { λ _. ⌜ now (out .exit) ≡ written (now (out .entry)) 0 (headerBytes rows bytes) ⌝ }
 {

@@ -5,6 +5,7 @@ ghost use lib.ListN.{length};
 ghost use Rattle.answers.specs.Given.{checkGiven, locatedGiven, boundGiven};
 ghost use Rattle.output_answers.specs.Given.{filledGiven, writtenGiven};
 ghost use Rattle.bundles.specs.Operations.{bundleRead, tableWritten, bundleChecked, bundleUriOfPrefix, bundlePrefixOfUri, bundleDefaultUri, bundleInScopeUri, bundleInScopePrefix, bundleNormalized};
+ghost use Rattle.packing.specs.Packing.{bundlePacked};
 ghost use Rattle.markup.specs.Writing.{bundleText};
 ghost use Rattle.proposals.specs.Proposals.{bundleProposalChecked};
 use answers::Found;
@@ -77,6 +78,16 @@ pub extern "C" fn noemathu_normalize(bundle: &[u8], out: &mut [u8]) -> Used
     ensures { λ _. ⌜ now (out .exit) ≡ bundleNormalized (now (bundle .entry)) (length (now (out .entry))) .bytes ⌝ }
 {
     output_answers::written(bundle_normalization::normalize(bundle, out))
+}
+
+// Packs a bundle into a bundle whose pool is each distinct field once, end to end, in order of first use. Success answers the
+// bytes that it takes; the rest of the output is zero, and all of it after a refusal.
+#[no_mangle]
+pub extern "C" fn noemathu_pack(bundle: &[u8], out: &mut [u8]) -> Used
+    ensures { λ r. ⌜ r ≡ writtenGiven (bundlePacked (now (bundle .entry)) (length (now (out .entry))) .answer) ⌝ }
+    ensures { λ _. ⌜ now (out .exit) ≡ bundlePacked (now (bundle .entry)) (length (now (out .entry))) .bytes ⌝ }
+{
+    output_answers::written(bundle_packing::pack(bundle, out))
 }
 
 // Writes the XML text of an element, or of a document's element, and of all that it holds. Success answers the bytes that it

@@ -1,0 +1,4 @@
+pub mod Following
+pub mod Followed
+pub mod Finding
+pub mod Elsewhere

@@ -1,0 +1,2 @@
+-- Index: the index of the packed names.
+pub mod Index

@@ -1,0 +1,2 @@
+-- Marking: where a name stands in the packed pool.
+pub mod Marking

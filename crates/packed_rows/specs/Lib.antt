@@ -1,0 +1,2 @@
+-- Rows: a row of a table over the packed pool.
+pub mod Rows

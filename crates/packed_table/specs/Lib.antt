@@ -1,0 +1,2 @@
+-- Packed: the rows of a table over the packed pool.
+pub mod Packed

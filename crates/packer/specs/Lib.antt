@@ -1,0 +1,2 @@
+-- Lent: the arrays that packing is lent.
+pub mod Lent
