@@ -4,8 +4,9 @@
    here check a bundle, tell what a prefix or a namespace URI means at a node,
    and normalize a bundle: they set and add namespace declarations so that every
    element and attribute means the URI that its maker gave it. One judges a bundle
-   that somebody else proposes for another, one writes an element as XML text, and
-   two more turn a bundle into rows and names, and back.
+   that somebody else proposes for another, one leaves out the bytes of a pool that
+   no row uses any more, one writes an element as XML text, and two more turn a
+   bundle into rows and names, and back.
 
    Link with -lnoemathu, or see `pkg-config --cflags --libs noemathu`. The
    library is for x86-64 and calls nothing but the C library's memory functions.
@@ -148,7 +149,7 @@
 extern "C" {
 #endif
 
-#define NOEMATHU_VERSION "0.2.0"
+#define NOEMATHU_VERSION "0.3.0"
 
 /* The limits of a table, and of a bundle: 73,740 bytes. */
 #define NOEMATHU_ROW_WORDS 10
@@ -169,15 +170,15 @@ extern "C" {
 
 /* Bytes of stack that are enough for any call. Measured were at most 82,592 for
    noemathu_write, 126,144 for noemathu_check and noemathu_read, 129,472 for the
-   lookups, 216,144 for noemathu_check_proposal, 237,416 for noemathu_write_xml
-   and 223,680 for noemathu_normalize. */
+   lookups, 216,144 for noemathu_check_proposal, 237,416 for noemathu_write_xml,
+   223,680 for noemathu_normalize and 236,392 for noemathu_pack. */
 #define NOEMATHU_STACK 262144
 
 /* A small bundle, or a small table and its pool, and the bytes of stack that are
    enough for any call on one. Measured were at most 22,000 for
    noemathu_write, 24,560 for noemathu_check and noemathu_read, 25,104 for the
-   lookups, 35,912 for noemathu_check_proposal, 27,488 for noemathu_write_xml and
-   35,440 for noemathu_normalize. */
+   lookups, 35,912 for noemathu_check_proposal, 27,488 for noemathu_write_xml,
+   35,440 for noemathu_normalize and 38,568 for noemathu_pack. */
 #define NOEMATHU_FEW_ROWS 64
 #define NOEMATHU_SHORT_POOL 4096
 #define NOEMATHU_SMALL_STACK 40960
@@ -256,7 +257,8 @@ extern "C" {
 #define NOEMATHU_REFUSED_ROW_ROOM 10
 
 /* The result has more pool bytes than the output pool, or than 32,768. Lend a
-   larger pool; split the tree. */
+   larger pool; split the tree. What noemathu_pack refuses so has fields that share
+   bytes: leave it as it is. */
 #define NOEMATHU_REFUSED_POOL_ROOM 11
 
 /* The field has length 0 and an offset that is not 0. Write 0 for the offset, or
@@ -495,6 +497,23 @@ noemathu_found noemathu_in_scope_prefix(const uint8_t *bundle, size_t length, ui
    passes noemathu_check. */
 noemathu_used noemathu_normalize(const uint8_t *bundle, size_t length,
                                  uint8_t *out, size_t out_size);
+
+/* Packs a bundle into another one, whose pool is each distinct field once: end to
+   end, in order of first use, row after row and word after word, prefixes, local
+   names, URIs and values together. Every field keeps its bytes and every other word
+   its number, so that every lookup finds the same bytes, at another place. What is
+   packed passes noemathu_check, and packing it again changes nothing. Rows of type
+   257 and 258 are packed as others are.
+
+   Bytes that no row uses are gone, and equal ones stand once. But a field that is
+   only a part of another one is an entry of its own, so that a packed pool can be
+   longer than it was: NOEMATHU_BUNDLE_MOST bytes are always enough, the length of
+   the input is not.
+
+   Refusals: 30 to 32, 1 to 7, 12 to 14; 11 where the packed pool has more than
+   32,768 bytes; 33. */
+noemathu_used noemathu_pack(const uint8_t *bundle, size_t length,
+                            uint8_t *out, size_t out_size);
 
 /* Reads a bundle into a table and a pool. Refusals: 30 to 32, 1 to 7, 12 to 14;
    10 where the table has too few whole rows, 11 where the pool is too short. */
