@@ -107,8 +107,9 @@ static const struct where ENDS = {false, 0};
 
 #define NONE_BYTES 255, 255, 255, 255
 #define W(n) (n), 0, 0, 0
+#define BYTES(bundle) bundle, sizeof bundle
 
-/* Examples A and B of the rules, and what normalization makes of them. */
+/* Examples A and B of the rules, what normalization makes of them, and what packing makes of B's. */
 static const uint8_t bundle_a[] = {'N', 'T', 'B', 1, 0, 0, 1, 0, W(2),
     W(1), NONE_BYTES, W(0), W(0), W(0), W(1), W(1), W(1), W(0), W(0), 'a', 'U'};
 static const uint8_t result_a[] = {'N', 'T', 'B', 1, 0, 0, 2, 0, W(2),
@@ -121,21 +122,30 @@ static const uint8_t result_b[] = {'N', 'T', 'B', 1, 0, 0, 3, 0, W(6),
     W(1), NONE_BYTES, W(0), W(0), W(0), W(1), W(0), W(0), W(0), W(0),
     W(2), W(0), W(3), W(3), W(2), W(1), W(1), W(1), W(0), W(0),
     W(13), W(0), W(0), W(0), W(3), W(3), W(0), W(0), W(1), W(1), 'a', 'U', 'b', 'N', 'S', '1'};
+static const uint8_t packed_b[] = {'N', 'T', 'B', 1, 0, 0, 2, 0, W(3),
+    W(1), NONE_BYTES, W(0), W(0), W(0), W(1), W(0), W(0), W(0), W(0),
+    W(2), W(0), W(0), W(0), W(1), W(1), W(2), W(1), W(0), W(0), 'a', 'b', 'U'};
+static const uint8_t packed_result_b[] = {'N', 'T', 'B', 1, 0, 0, 3, 0, W(6),
+    W(1), NONE_BYTES, W(0), W(0), W(0), W(1), W(0), W(0), W(0), W(0),
+    W(2), W(0), W(1), W(3), W(4), W(1), W(5), W(1), W(0), W(0),
+    W(13), W(0), W(0), W(0), W(1), W(3), W(0), W(0), W(5), W(1), 'a', 'N', 'S', '1', 'b', 'U'};
 static const uint8_t bundle_none[] = {'N', 'T', 'B', 1, 0, 0, 0, 0, W(0)};
 
-/* Each with what its XML text from row 0 is, or the refusal that it draws. */
+/* Each with what it is normalized and packed to, and what its XML text from row 0 is, or the refusal that it draws. */
 static const struct sample {
     const uint8_t *bundle;
     size_t length;
     const uint8_t *result;
     size_t result_length;
+    const uint8_t *packed;
+    size_t packed_length;
     const char *text;
     noemathu_refusal no_text;
-} samples[] = {{bundle_none, sizeof bundle_none, bundle_none, sizeof bundle_none, "", {8, 0, 0}},
-               {bundle_a, sizeof bundle_a, result_a, sizeof result_a, "", {23, 0, 0}},
-               {bundle_b, sizeof bundle_b, result_b, sizeof result_b, "", {23, 1, 0}},
-               {result_a, sizeof result_a, result_a, sizeof result_a, "<a xmlns=\"U\"></a>", {0, 0, 0}},
-               {result_b, sizeof result_b, result_b, sizeof result_b, "<a NS1:b=\"\" xmlns:NS1=\"U\"></a>", {0, 0, 0}}};
+} samples[] = {{BYTES(bundle_none), BYTES(bundle_none), BYTES(bundle_none), "", {8, 0, 0}},
+               {BYTES(bundle_a), BYTES(result_a), BYTES(bundle_a), "", {23, 0, 0}},
+               {BYTES(bundle_b), BYTES(result_b), BYTES(packed_b), "", {23, 1, 0}},
+               {BYTES(result_a), BYTES(result_a), BYTES(result_a), "<a xmlns=\"U\"></a>", {0, 0, 0}},
+               {BYTES(result_b), BYTES(result_b), BYTES(packed_result_b), "<a NS1:b=\"\" xmlns:NS1=\"U\"></a>", {0, 0, 0}}};
 
 enum { SAMPLES = sizeof samples / sizeof *samples };
 
@@ -163,7 +173,7 @@ static bool default_is(const uint8_t *bundle, size_t length, uint32_t row, const
     return noemathu_default_is(bundle, noemathu_default_uri(bundle, length, row), uri, uri_length);
 }
 
-/* All nine refuse it so, and leave their outputs zero. */
+/* All that read one bundle refuse it so, and leave their outputs zero. */
 static void refused(const uint8_t *bundle, size_t length, uint32_t number, uint32_t row)
 {
     const uint8_t *p = (const uint8_t *)"p";
@@ -178,6 +188,11 @@ static void refused(const uint8_t *bundle, size_t length, uint32_t number, uint3
 
     lend(&out_room, NULL, 201, ENDS);
     noemathu_used used = noemathu_normalize(bundle, length, out_room.lent, out_room.length);
+    EXPECT(is_refusal(used.refusal, number, row) && used.bytes == 0 && holds(&out_room, NULL, 0));
+    take_back(&out_room);
+
+    lend(&out_room, NULL, 151, ENDS);
+    used = noemathu_pack(bundle, length, out_room.lent, out_room.length);
     EXPECT(is_refusal(used.refusal, number, row) && used.bytes == 0 && holds(&out_room, NULL, 0));
     take_back(&out_room);
 
@@ -216,6 +231,7 @@ static void nothing_lent(void)
     EXPECT(is_nothing(noemathu_in_scope_prefix(NULL, 0, 0, NULL, 0), 30, 0));
     EXPECT(is_nothing(noemathu_default_uri(NULL, 0, 0), 30, 0));
     EXPECT(is_refusal(noemathu_normalize(NULL, 0, NULL, 0).refusal, 30, 0));
+    EXPECT(is_refusal(noemathu_pack(NULL, 0, NULL, 0).refusal, 30, 0));
     EXPECT(is_refusal(noemathu_read(NULL, 0, NULL, 0, NULL, 0).refusal, 30, 0));
     EXPECT(is_refusal(noemathu_write(NULL, 0, NULL, 0, NULL, 0).refusal, 33, 0));
     EXPECT(is_refusal(noemathu_write_xml(NULL, 0, 0, NULL, 0).refusal, 30, 0));
@@ -237,6 +253,8 @@ static void nothing_lent(void)
     EXPECT(!default_is(bundle_a, sizeof bundle_a, 0, NULL, 0));
     EXPECT(default_is(bundle_b, sizeof bundle_b, 0, NULL, 0));
     EXPECT(is_refusal(noemathu_normalize(bundle_a, sizeof bundle_a, NULL, 0).refusal, 33, 0));
+    EXPECT(is_refusal(noemathu_pack(bundle_a, sizeof bundle_a, NULL, 0).refusal, 33, 0));
+    EXPECT(is_refusal(noemathu_pack(bundle_none, sizeof bundle_none, NULL, 0).refusal, 33, 0));
     EXPECT(is_refusal(noemathu_read(bundle_a, sizeof bundle_a, NULL, 0, NULL, 0).refusal, 10, 0));
     EXPECT(is_refusal(noemathu_write_xml(result_a, sizeof result_a, 0, NULL, 0).refusal, 22, 0));
     EXPECT(is_refusal(noemathu_write_xml(result_a, sizeof result_a, 1, NULL, 0).refusal, 20, 1));
@@ -270,17 +288,17 @@ static void every_header_byte(void)
         }
 }
 
-static void normalize_at(const struct sample *sample, struct where where, size_t size)
+/* A call from a bundle into a bundle, which makes this of a sample. */
+static void made_at(noemathu_used (*call)(const uint8_t *, size_t, uint8_t *, size_t), const struct sample *sample,
+                    const uint8_t *result, size_t length, struct where where, size_t size)
 {
     lend(&bundle_room, sample->bundle, sample->length, where);
     lend(&out_room, NULL, size, where);
-    noemathu_used used = noemathu_normalize(bundle_room.lent, sample->length, size ? out_room.lent : NULL, size);
-    if (size < sample->result_length) {
+    noemathu_used used = call(bundle_room.lent, sample->length, size ? out_room.lent : NULL, size);
+    if (size < length)
         EXPECT(is_refusal(used.refusal, 33, 0) && used.bytes == 0 && holds(&out_room, NULL, 0));
-    } else {
-        EXPECT(is_refusal(used.refusal, 0, 0) && used.bytes == sample->result_length);
-        EXPECT(holds(&out_room, sample->result, sample->result_length));
-    }
+    else
+        EXPECT(is_refusal(used.refusal, 0, 0) && used.bytes == length && holds(&out_room, result, length));
     take_back(&bundle_room);
     take_back(&out_room);
 }
@@ -356,7 +374,9 @@ static void every_output_size(void)
             const struct sample *sample = &samples[s];
             struct where where = {i >= 8, i % 8};
             for (size_t size = 0; size < sample->result_length + 45; size++)
-                normalize_at(sample, where, size);
+                made_at(noemathu_normalize, sample, sample->result, sample->result_length, where, size);
+            for (size_t size = 0; size < sample->packed_length + 45; size++)
+                made_at(noemathu_pack, sample, sample->packed, sample->packed_length, where, size);
             for (size_t size = 0; size < sample->length + 45; size++)
                 write_at(sample, where, size);
             for (size_t size = 0; size < strlen(sample->text) + 45; size++)
@@ -467,6 +487,9 @@ static void expect_judged(const uint32_t *table, const uint8_t *pool, size_t byt
     EXPECT(is_field_refusal(noemathu_in_scope_uri(bundle_room.lent, length, 0, NULL, 0).refusal, number, row, word));
     EXPECT(is_field_refusal(noemathu_in_scope_prefix(bundle_room.lent, length, 0, NULL, 0).refusal, number, row, word));
     used = noemathu_normalize(bundle_room.lent, length, out, sizeof out);
+    EXPECT(is_field_refusal(used.refusal, number, row, word));
+    EXPECT(number ? is_zero(out, sizeof out) : is_refusal(noemathu_check(out, used.bytes), 0, 0));
+    used = noemathu_pack(bundle_room.lent, length, out, sizeof out);
     EXPECT(is_field_refusal(used.refusal, number, row, word));
     EXPECT(number ? is_zero(out, sizeof out) : is_refusal(noemathu_check(out, used.bytes), 0, 0));
     EXPECT(is_field_refusal(noemathu_read(bundle_room.lent, length, out_table, 20, out, sizeof out).refusal, number, row, word));
@@ -930,12 +953,12 @@ static void deepest_text(void)
 }
 
 /* A result beyond the limits draws 10 or 11 however much room there is, and 33 does not come before. */
-static void result_refused(size_t length, uint32_t number)
+static void result_refused(noemathu_used (*call)(const uint8_t *, size_t, uint8_t *, size_t), size_t length, uint32_t number)
 {
     EXPECT(is_refusal(noemathu_check(large, length), 0, 0));
     for (size_t size = 0; size <= sizeof large_out; size += sizeof large_out / 4) {
         memset(large_out, PATTERN, sizeof large_out);
-        noemathu_used used = noemathu_normalize(large, length, large_out, size);
+        noemathu_used used = call(large, length, large_out, size);
         EXPECT(is_refusal(used.refusal, number, 0) && used.bytes == 0 && is_zero(large_out, size));
         EXPECT(is_pattern(large_out + size, large_out + sizeof large_out));
     }
@@ -947,12 +970,134 @@ static void beyond_the_limits(void)
     size_t length = make_large(1024, 32768, NOEMATHU_TEXT, false);
     set_word(0, 7, 1);
     EXPECT(noemathu_room(large) == NOEMATHU_BUNDLE_MOST);
-    result_refused(length, 10);
+    result_refused(noemathu_normalize, length, 10);
     /* An attribute with a URI and no prefix: a row and three bytes more. */
     length = make_large(2, 32768, NOEMATHU_ATTRIBUTE, false);
     set_word(1, 5, 1);
     set_word(1, 7, 1);
-    result_refused(length, 11);
+    result_refused(noemathu_normalize, length, 11);
+}
+
+/* ---- packing */
+
+static uint8_t slowly[NOEMATHU_BUNDLE_BYTES(1024, 5 * 32768)];
+static size_t starts[4096], ends[4096];
+
+/* Packs the large bundle field by field, each held against all entries before it. Answers how many bytes that takes, as long as
+   the pool has not many more than it may. */
+static size_t pack_slowly(void)
+{
+    size_t rows = noemathu_row_count(large), held = 0, entries = 0;
+    uint8_t *pool = slowly + NOEMATHU_BUNDLE_BYTES(rows, 0);
+    memcpy(slowly, large, NOEMATHU_BUNDLE_BYTES(rows, 0));
+    for (size_t i = 0; i < rows; i++)
+        for (size_t word = 2; word < 10; word += 2) {
+            noemathu_place place = {noemathu_word(large, i, word), noemathu_word(large, i, word + 1)};
+            const uint8_t *bytes = noemathu_bytes(large, place);
+            size_t entry = 0;
+            if (place.length == 0)
+                continue;
+            while (entry < entries && (ends[entry] - starts[entry] != place.length ||
+                                       memcmp(pool + starts[entry], bytes, place.length) != 0))
+                entry++;
+            if (entry == entries) {
+                starts[entries] = held;
+                memcpy(pool + held, bytes, place.length);
+                ends[entries++] = held += place.length;
+            }
+            set_number(slowly + NOEMATHU_BUNDLE_BYTES(i, 4 * word), 4, starts[entry]);
+            if (held > NOEMATHU_MOST_POOL)
+                return NOEMATHU_BUNDLE_BYTES(rows, held);
+        }
+    set_number(slowly + 8, 4, held);
+    return NOEMATHU_BUNDLE_BYTES(rows, held);
+}
+
+/* The large bundle is packed as it is slowly, into just as much room, a byte more and a byte less; packed again it stays as it
+   is. */
+static void expect_packed(size_t length)
+{
+    size_t exact = pack_slowly();
+    for (size_t size = exact - 1; size <= exact + 1; size++) {
+        lend(&bundle_room, large, length, ENDS);
+        lend(&out_room, NULL, size, ENDS);
+        noemathu_used used = noemathu_pack(bundle_room.lent, length, out_room.lent, size);
+        EXPECT(is_refusal(used.refusal, size < exact ? 33 : 0, 0) && used.bytes == (size < exact ? 0 : exact));
+        EXPECT(holds(&out_room, slowly, used.bytes));
+        take_back(&bundle_room);
+        take_back(&out_room);
+    }
+    EXPECT(is_refusal(noemathu_check(slowly, exact), 0, 0));
+    noemathu_used used = noemathu_pack(slowly, exact, large_out, exact);
+    EXPECT(is_refusal(used.refusal, 0, 0) && used.bytes == exact && memcmp(large_out, slowly, exact) == 0);
+}
+
+/* Attributes without owners, whose four fields stand at places of a pool of some letters. */
+static size_t make_fields(size_t rows, size_t bytes, size_t letters, noemathu_place (*place)(size_t))
+{
+    size_t length = make_large(rows, bytes, NOEMATHU_ATTRIBUTE, false), number = 1;
+    for (size_t k = 0; k < bytes; k++) {
+        number = (number * 1103515245 + 12345) % 2147483648;
+        large[NOEMATHU_BUNDLE_BYTES(rows, k)] = (uint8_t)('a' + number / 65536 % letters);
+    }
+    for (size_t i = 0; i < 4 * rows; i++) {
+        set_word(i / 4, 0, NOEMATHU_ATTRIBUTE);
+        set_word(i / 4, 1, NOEMATHU_NONE);
+        set_word(i / 4, 2 + 2 * (i % 4), place(i).offset);
+        set_word(i / 4, 3 + 2 * (i % 4), place(i).length);
+    }
+    return length;
+}
+
+static noemathu_place eights(size_t i) { return (noemathu_place){(uint32_t)(8 * i), 8}; }
+static noemathu_place backwards(size_t i) { return (noemathu_place){(uint32_t)(32768 - 8 * (i + 1)), 8}; }
+static noemathu_place shorts(size_t i) { return (noemathu_place){(uint32_t)(i * i % 4000), (uint32_t)(1 + i % 3)}; }
+static noemathu_place overlaps(size_t i) { return (noemathu_place){(uint32_t)i, 40}; }
+static noemathu_place at_two(size_t i) { return (noemathu_place){(uint32_t)(1024 * (i % 2)), 3072}; }
+static noemathu_place halves(size_t i) { return (noemathu_place){(uint32_t)(i % 2), 16384}; }
+static noemathu_place halves_and_more(size_t i) { return (noemathu_place){(uint32_t)(i % 2), i == 5 ? 1 : 16384}; }
+
+/* Fields of every kind of sharing, in large tables and in small ones. */
+static void packing(void)
+{
+    expect_packed(make_large(0, 0, NOEMATHU_TEXT, false));
+    expect_packed(make_large(0, 32768, NOEMATHU_TEXT, false)); /* dead bytes alone */
+    expect_packed(make_large(1024, 32768, NOEMATHU_TEXT, false));
+    EXPECT(noemathu_pool_length(slowly) == 1);
+    for (size_t rows = 1; rows <= 1024; rows += rows < 66 ? 1 : 479) {
+        expect_packed(make_fields(rows, 32768, 26, eights));
+        expect_packed(make_fields(rows, 32768, 26, backwards));
+        expect_packed(make_fields(rows, 4096, 3, shorts));
+        expect_packed(make_fields(rows < 200 ? rows : 200, 4096, 26, overlaps)); /* longer than it was */
+        expect_packed(make_fields(rows, 4096, 1, at_two));
+    }
+    /* as long as may be, and by one byte too long: 11 with any room */
+    expect_packed(make_fields(1024, 32768, 26, eights));
+    EXPECT(noemathu_pool_length(slowly) == 32768);
+    expect_packed(make_fields(3, 16385, 26, halves));
+    EXPECT(noemathu_pool_length(slowly) == 32768);
+    result_refused(noemathu_pack, make_fields(3, 16385, 26, halves_and_more), 11);
+    result_refused(noemathu_pack, make_fields(1024, 4136, 26, overlaps), 11);
+    result_refused(noemathu_pack, make_fields(205, 860, 26, overlaps), 11);
+
+    /* rows of DOM Level 1, an empty field between others, one field a part of another */
+    made_rows = made_held = 0;
+    set_row(0, NOEMATHU_LEVEL1_ELEMENT, NOEMATHU_NONE, "", "", "");
+    made_table[4] = put("ab:cd").offset;
+    made_table[5] = 5;
+    set_row(1, NOEMATHU_LEVEL1_ATTRIBUTE, 0, "cd", "", "d");
+    set_row(2, NOEMATHU_ELEMENT, 0, "cd", "d", "");
+    set_row(3, NOEMATHU_TEXT, 2, "", "", "ab:cd");
+    size_t length = made_bundle();
+    uint8_t out[sizeof made];
+    noemathu_used used = noemathu_pack(made, length, out, sizeof out);
+    EXPECT(is_refusal(used.refusal, 0, 0) && used.bytes == NOEMATHU_BUNDLE_BYTES(4, 8));
+    EXPECT(memcmp(noemathu_pool(out), "ab:cdcdd", 8) == 0 && is_zero(out + used.bytes, sizeof out - used.bytes));
+    static const uint32_t places[4][4] = {{0, 0, 0, 0}, {0, 5, 0, 7}, {0, 5, 7, 0}, {0, 0, 0, 0}};
+    for (size_t i = 0; i < 4; i++)
+        for (size_t word = 0; word < 10; word++)
+            EXPECT(noemathu_word(out, i, word) ==
+                   (word % 2 || word == 0 ? noemathu_word(made, i, word) : places[i][word / 2 - 1]));
 }
 
 /* ---- the helpers of the header */
@@ -1091,6 +1236,7 @@ static void run_in_scope_prefix(void)
 }
 
 static void run_normalize(void) { noemathu_normalize(large, large_length, large_out, sizeof large_out); }
+static void run_pack(void) { noemathu_pack(large, large_length, large_out, sizeof large_out); }
 static void run_read(void) { noemathu_read(large, large_length, large_table, 12000, large_out, sizeof large_out); }
 static void run_write(void)
 {
@@ -1128,7 +1274,7 @@ static size_t stack_of(void (*call)(void))
 }
 
 static void (*const calls[])(void) = {run_check, run_uri, run_prefix, run_default, run_in_scope_uri, run_in_scope_prefix,
-                                      run_normalize, run_read, run_write, run_write_xml, run_check_proposal};
+                                      run_normalize, run_pack, run_read, run_write, run_write_xml, run_check_proposal};
 
 enum { CALLS = sizeof calls / sizeof *calls };
 
@@ -1178,6 +1324,9 @@ static void *many_calls(void *given)
         noemathu_used used = noemathu_normalize(sample->bundle, sample->length, out, sizeof out);
         if (used.bytes != sample->result_length || memcmp(out, sample->result, used.bytes) != 0)
             return given;
+        used = noemathu_pack(sample->bundle, sample->length, out, sizeof out);
+        if (used.bytes != sample->packed_length || memcmp(out, sample->packed, used.bytes) != 0)
+            return given;
         used = noemathu_write_xml(sample->result, sample->result_length, 0, out, sizeof out);
         if (used.bytes != strlen(sample[2].text) || memcmp(out, sample[2].text, used.bytes) != 0)
             return given;
@@ -1217,6 +1366,7 @@ int main(void)
     shared_values();
     deepest_text();
     beyond_the_limits();
+    packing();
     helpers();
     proposals();
     stack_as_told();

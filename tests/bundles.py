@@ -1,6 +1,6 @@
 """A second reading of session bundles, over the second reading of the rules: what a bundle is, and what each function of
-the C interface answers and leaves in its outputs. It is written from the rules, without a look at the library, but for XML
-text (reading.py).
+the C interface answers and leaves in its outputs. It is written from the rules, without a look at the library, but for packing
+and XML text (reading.py).
 
 A bundle, a pool and a query are strings of bytes, a table is a sequence of words, a row a number.
 
@@ -13,6 +13,7 @@ A bundle, a pool and a query are strings of bytes, a table is a sequence of word
     in_scope_uri(bundle, row, query) -> (number, row, word, found, offset, length)
     in_scope_prefix(bundle, row, query) -> (number, row, word, found, offset, length)
     normalize(bundle, out_size) -> (number, row, word, bytes, out)
+    pack(bundle, out_size) -> (number, row, word, bytes, out)
     read(bundle, out_words, out_bytes) -> (number, row, word, rows, bytes, out_table, out_pool)
     write(table, pool, out_size) -> (number, row, word, bytes, out)
     write_xml(bundle, row, out_size) -> (number, row, word, bytes, out)
@@ -181,9 +182,19 @@ def written(bundle, out_size):
 
 
 def normalize(bundle, out_size):
+    """Normalization, into a bundle."""
+    return result_written(reading.normalized, bundle, out_size)
+
+
+def pack(bundle, out_size):
+    """Packing, into a bundle."""
+    return result_written(reading.packed, bundle, out_size)
+
+
+def result_written(making, bundle, out_size):
     """For a written bundle 10 and 11 speak only of 1,024 and 32,768."""
     try:
-        refusal, tree = reading.normalized(*split(bundle))
+        refusal, tree = making(*split(bundle))
         refuse_if(refusal)
         refuse_if(reading.too_much(tree, reading.WIDTH * reading.MOST_ROWS, reading.MOST_BYTES))
         return written(join(reading.words_of(tree), tree.pool), out_size)

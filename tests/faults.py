@@ -567,6 +567,80 @@ def ownerless_attribute_asked():
     reading.is_asked = lambda row: right(row) or row.type == reading.ATTRIBUTE and row.prefix.text == b"" != row.uri.text
 
 
+def words_before_rows():
+    """The entries of a packed pool stand in order of their words, and of rows within each."""
+    right = reading.uses
+    reading.uses = lambda tree: sorted(right(tree), key=lambda use: use[0])
+
+
+def entries_by_place():
+    """Equal fields at two places are two entries."""
+    reading.entry_of = lambda word, field: (field.offset, field.text)
+
+
+def entries_by_kind():
+    """A name and a value of the same bytes are two entries."""
+    reading.entry_of = lambda word, field: (word == 8, field.text)
+
+
+def part_of_entry_reused():
+    """A field that is a part of what was packed before points there."""
+    right = reading.new_entry
+
+    def new_entry(made, text):
+        at = made.pool.find(text)
+        return right(made, text) if at < 0 else reading.Field(at, len(text), text)
+    reading.new_entry = new_entry
+
+
+def empty_field_points():
+    """An empty field points behind the packed pool."""
+    reading.empty_field = lambda made: reading.Field(len(made.pool), 0, b"")
+
+
+def dead_bytes_kept():
+    """Bytes that no field uses stay behind the packed pool."""
+    right = reading.packed_form
+
+    def packed_form(tree):
+        made = right(tree)
+        used = {at for row in tree.rows for field in row.fields() for at in range(field.offset, field.offset + field.length)}
+        made.pool += bytes(byte for at, byte in enumerate(tree.pool) if at not in used)
+        return made
+    reading.packed_form = packed_form
+
+
+def packed_no_longer():
+    """11 comes where the packed pool is longer than it was."""
+    right = reading.packed
+
+    def packed(table, pool):
+        refusal, tree = right(table, pool)
+        return (refusal, tree) if tree is None or len(tree.pool) <= len(pool) else (reading.Refusal(11), None)
+    reading.packed = packed
+
+
+def packed_beyond_limit():
+    """11 does not come by 32,768 where a bundle is packed."""
+    right = bundles.pack
+
+    def pack(bundle, out_size):
+        answer = right(bundle, out_size)
+        return (33, *answer[1:]) if answer[0] == 11 else answer
+    bundles.pack = pack
+
+
+def level1_not_packed():
+    """9 comes for packing too."""
+    right = reading.packed
+
+    def packed(table, pool):
+        refusal, tree = right(table, pool)
+        level1 = reading.first_level1(tree) if tree else reading.NOT_REFUSED
+        return (level1, None) if level1.number else (refusal, tree)
+    reading.packed = packed
+
+
 FAULTS = {fault.__name__: fault for fault in (
     shadowed_prefix, shadowed_own_prefix, element_by_uri_lookup, default_serves_attribute, bound_prefix_declared,
     declared_xml, xmlns_not_built_in, built_in_without_start, nothing_is_no_default, unprefixed_decides,
@@ -582,4 +656,6 @@ FAULTS = {fault.__name__: fault for fault in (
     xml_not_inherited, between_not_looked_at, beside_counts, owner_written, attribute_without_prefix,
     noncharacters_allowed, declared_values_not_tried,
     declaration_value_compared, element_prefix_compared, ownerless_prefix_free, proposal_level1_first, missing_row_accepted,
-    extra_rows_not_looked_at, unresolved_by_uri_lookup, ownerless_attribute_asked)}
+    extra_rows_not_looked_at, unresolved_by_uri_lookup, ownerless_attribute_asked,
+    words_before_rows, entries_by_place, entries_by_kind, part_of_entry_reused, empty_field_points, dead_bytes_kept,
+    packed_no_longer, packed_beyond_limit, level1_not_packed)}

@@ -354,11 +354,31 @@ def longer(maker):
     return 3 * attributes
 
 
+def shared(maker, bytes):
+    """Values that share their bytes, in few rows or in a short pool, or in more: they come apart to so many bytes."""
+    random = maker.random
+    root = maker.add(1, NONE, local_name=b"root")
+    maker.pool += b"a" * random.choice((2000, 4096 - 4, 4096, 9000, 30000))
+    longest = len(maker.pool) - 4
+    lengths = set()
+    bytes -= 4
+    while bytes > 0:
+        length = min(bytes, longest, random.randint(400, 8000))
+        while length in lengths and length > 1:
+            length -= 1
+        lengths.add(length)
+        bytes -= length
+        maker.rows.append([3, root, 0, 0, 0, 0, 0, 0, random.randint(4, len(maker.pool) - length), length])
+
+
 def limits(random):
-    """Tables at the limits: the rows and the pool of the input, or those of the result."""
+    """Tables at the limits: the rows and the pool of the input, or those of a result."""
     maker, about = Maker(random), random.choice((-1, 0, 0, 1))
-    what = random.choice(("rows", "rows", "rows of the result", "bytes", "bytes of the result"))
-    if what == "rows":
+    what = random.choice(("rows", "rows", "rows of the result", "bytes", "bytes of the result",
+                          "bytes that come apart", "bytes that come apart"))
+    if what == "bytes that come apart":
+        shared(maker, MOST_BYTES + about)
+    elif what == "rows":
         full(maker, MOST_WORDS // 10 + about)
     elif what == "rows of the result":
         growing(maker, MOST_WORDS // 10 + about)

@@ -53,6 +53,7 @@ FUNCTIONS = {
     "in_scope_uri": (LOOKUP, Found),
     "in_scope_prefix": (LOOKUP, Found),
     "normalize": (BUFFER * 2, Used),
+    "pack": (BUFFER * 2, Used),
     "read": (BUFFER * 3, Sizes),
     "write": (BUFFER * 3, Used),
     "write_xml": (BUFFER + [WORD] + BUFFER, Used),
@@ -165,6 +166,8 @@ class Library:
     def normalize(self, operation, size):
         answer = self.functions[operation](*self.lent["bundle"], *self.rooms["out"].lend(size, self.shift))
         return (*answer.refusal.given(), answer.bytes, self.rooms["out"].taken_back("the output"))
+
+    pack = normalize
 
     def write(self, operation, size):
         answer = self.functions[operation](*self.lent["table"], *self.lent["pool"],

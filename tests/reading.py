@@ -1,6 +1,6 @@
-"""A second reading of the rules: the check of a node table, the lookups, normalization and XML text, as docs/RULES.md says
-them, in its order and words. The check, the lookups and normalization were written without a look at the library, XML text
-after its definitions had been read. tests/compare holds the library to it.
+"""A second reading of the rules: the check of a node table, the lookups, normalization, packing and XML text, as docs/RULES.md
+says them, in its order and words. The check, the lookups and normalization were written without a look at the library, the others
+after their definitions had been read. tests/compare holds the library to it.
 
 A table is a sequence of words, a pool a string of bytes, a row a number, a query a string of bytes.
 
@@ -13,6 +13,7 @@ A table is a sequence of words, a pool a string of bytes, a row a number, a quer
     in_scope_uri(table, pool, row, query) -> (number, row, word, kind, offset, length)
     in_scope_prefix(table, pool, row, query) -> (number, row, word, kind, offset, length)
     normalize(table, pool, out_words, out_bytes) -> (number, row, word, rows, bytes, out_table, out_pool)
+    pack(table, pool, out_words, out_bytes) -> (number, row, word, rows, bytes, out_table, out_pool)
     write_xml(table, pool, row, out_size) -> (number, row, word, bytes, out)
 
 Number 0 is no refusal. A kind is "none", "place", "xml" or "xmlns", of which the last two are built in.
@@ -545,7 +546,11 @@ def in_scope_prefix(table, pool, row, query):
 def normalize(table, pool, out_words, out_bytes):
     """Input table and pool are read; output table and pool are written. The rest of both output buffers is zero. Success
     answers the result's row count and pool length; a refusal answers 0 for both."""
-    refusal, tree = normalized(tuple(table), bytes(pool))
+    return filled(*normalized(tuple(table), bytes(pool)), out_words, out_bytes)
+
+
+def filled(refusal, tree, out_words, out_bytes):
+    """What a result, or a refusal, answers and leaves in an output table and an output pool."""
     if refusal.number == 0:
         refusal = too_much(tree, out_words, out_bytes)
     if refusal.number != 0:
@@ -650,6 +655,55 @@ def in_pool(tree, text):
     field = Field(len(tree.pool), len(text), text)
     tree.pool += text
     return field
+
+
+# Packing.
+
+def pack(table, pool, out_words, out_bytes):
+    """A table, and a pool that is each distinct non-empty field once. After the check, refusal 10 exactly if the output table
+    has too few rows, then 11 exactly if the packed pool is above 32,768 or above the output pool."""
+    return filled(*packed(tuple(table), bytes(pool)), out_words, out_bytes)
+
+
+@lru_cache(maxsize=1)
+def packed(table, pool):
+    """The refusal; or no refusal, and the packed table and pool, whatever room there is for them."""
+    refusal, tree = checked(table, pool)
+    return (refusal, None) if tree is None else (NOT_REFUSED, packed_form(tree))
+
+
+def packed_form(tree):
+    """Each distinct non-empty field once, in order of first use. Every field keeps its bytes, a non-empty one pointing to its
+    entry there, and every other word its number."""
+    made, entries = Tree((), b""), {}
+    for word, field in uses(tree):
+        if field.text and entry_of(word, field) not in entries:
+            entries[entry_of(word, field)] = new_entry(made, field.text)
+    for row in tree.rows:
+        fields = [entries[entry_of(word, field)] if field.text else empty_field(made) for word, field in row.worded()]
+        made.add(Row(row.number, row.type, row.parent, *fields))
+    return made
+
+
+def uses(tree):
+    """All fields, by row and then word."""
+    return [use for row in tree.rows for use in row.worded()]
+
+
+def entry_of(word, field):
+    """What tells entries apart: their bytes, over all four kinds together."""
+    return field.text
+
+
+def new_entry(made, text):
+    """End to end: an entry stands behind those before it."""
+    field = Field(len(made.pool), len(text), text)
+    made.pool += text
+    return field
+
+
+def empty_field(made):
+    return EMPTY
 
 
 # XML text.
