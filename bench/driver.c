@@ -1,7 +1,8 @@
 /* Runs an operation on a bundle from a file, so many times, and prints what it answers: the number and row of the refusal,
    what a lookup finds and how long it is, how many rows and bytes an output takes. The operation `copy` is what writing XML
    text is held against: the check, and a copy, byte by byte, of the text that is there already; `memcpy` makes the copy by
-   the C library. An operation whose name begins with `table_` is run over the table and the pool that the bundle stands for
+   the C library. Packing writes into an output of just as many bytes as it takes.
+   An operation whose name begins with `table_` is run over the table and the pool that the bundle stands for
    (bench/over-tables), and one that ends in `_small` writes into small outputs. Run 0 times, an operation is run once on a
    stack of its own, and the bytes of stack that it took are printed.
    Usage: driver OPERATION FILE TIMES [ROW QUERY] */
@@ -63,6 +64,16 @@ static void normalize_into(size_t room)
 
 static void normalize(void) { normalize_into(sizeof out); }
 static void normalize_small(void) { normalize_into(NOEMATHU_BUNDLE_BYTES(SMALL_ROWS, SMALL_POOL)); }
+
+/* The bytes that a result takes. */
+static size_t exact;
+
+static void pack(void)
+{
+    noemathu_used used = noemathu_pack(bundle, length, out, exact);
+    refusal = used.refusal;
+    answer[0] = used.bytes;
+}
 
 static void read_bundle(void)
 {
@@ -167,7 +178,7 @@ static const struct {
     const char *name;
     void (*run)(void);
 } operations[] = {{"check", check}, {"check_proposal", check_proposal}, {"uri", uri}, {"prefix", prefix}, {"default", default_uri},
-                  {"in_scope_uri", in_scope_uri}, {"in_scope_prefix", in_scope_prefix}, {"normalize", normalize},
+                  {"in_scope_uri", in_scope_uri}, {"in_scope_prefix", in_scope_prefix}, {"normalize", normalize}, {"pack", pack},
                   {"read", read_bundle}, {"write", write_bundle}, {"write_xml", write_xml}, {"copy", copy},
                   {"memcpy", copy_at_once}, {"normalize_small", normalize_small}, {"table_check", table_check},
                   {"table_uri", table_uri}, {"table_prefix", table_prefix}, {"table_default", table_default},
@@ -230,6 +241,8 @@ int main(int argc, char **argv)
     }
     if (operation == copy || operation == copy_at_once)
         write_xml();
+    if (operation == pack)
+        exact = noemathu_pack(bundle, length, out, sizeof out).bytes;
     if (atol(argv[3]) == 0) {
         printf("%zu\n", stack_of(operation) - stack_of(nothing));
         return 0;

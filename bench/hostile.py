@@ -531,6 +531,126 @@ def names_long_text():
     return table
 
 
+# ---- packing: values get numbers too, and a packed pool of more than 32,768 bytes ends it
+
+def fields(pool, places):
+    """Attributes without owners, each with four fields."""
+    return made(pool, [(2, NONE, *places[i], *places[i + 1], *places[i + 2], *places[i + 3]) for i in range(0, len(places), 4)])
+
+
+def fields_everywhere():
+    """Equal fields of 28,672 bytes, each in a place of its own."""
+    return fields(b"a" * POOL, [(i, POOL - 4 * ROWS) for i in range(4 * ROWS)])
+
+
+def fields_turns():
+    """Equal fields of 30,721 bytes at two places, of one slot: the names at the one and the other in turn, and so the values."""
+    return fields(b"a" * POOL, [(2047 * (turn % 2), POOL - 2047) for turn in turns()])
+
+
+def turns():
+    """Counts the names and the values of attributes with four fields each, both from 0 on."""
+    return [i // 4 if i % 4 == 3 else 3 * (i // 4) + i % 4 for i in range(4 * ROWS)]
+
+
+def fields_threes():
+    """Equal fields of 29,694 bytes, of characters of one byte and of two, at more places than are remembered."""
+    pool = filled("a\u00e9")
+    return fields(pool, [(3 * (turn % 1025), len(pool) // 3 * 3 - 3 * 1024) for turn in turns()])
+
+
+def fields_threes_named():
+    """The same, but for the values, which stand at one place."""
+    table = fields_threes()
+    table.rows = [(*row[:8], 0, row[9]) for row in table.rows]
+    return table
+
+
+def fields_two():
+    """Fields of 16,384 bytes and of one less, each in many places."""
+    return fields(b"a" * POOL, [(i // 2 * 7 % 16000, POOL // 2 - i % 2) for i in range(4 * ROWS)])
+
+
+def fields_eights():
+    """Different fields of eight bytes, which fill the packed pool."""
+    return fields(b"".join(b"f%07d" % i for i in range(4 * ROWS)), [(8 * i, 8) for i in range(4 * ROWS)])
+
+
+def fields_one_hash():
+    """Different fields of seven letters that share a hash."""
+    return fields(*sevens(4 * ROWS, "65536"))
+
+
+def fields_one_bucket():
+    """Different fields of seven letters that share a bucket of the dictionary."""
+    return fields(*sevens(4 * ROWS, buckets()))
+
+
+def sevens(count, how):
+    names = collided("short", count, how).split()
+    return b"".join(names), [(7 * i, 7) for i in range(count)]
+
+
+def fields_late():
+    """As many fields of one hash as are looked past before names are keyed, at places that are not remembered; the last value is one
+    more, so that all that came before is done twice."""
+    names = collided("short", 33, "65536").split()
+    pool = b"".join(names[:32]) * (POOL // 7 // 32 - 1)
+    places = [(7 * (i * 37 % (len(pool) // 7)), 7) for i in range(4 * ROWS - 1)]
+    return fields(pool + names[32], places + [(len(pool), 7)])
+
+
+def values_everywhere():
+    """Texts with equal values of 31,744 bytes, each in a place of its own."""
+    return texts(b"a" * POOL, [(i, POOL - ROWS) for i in range(1, ROWS)], (0, 1))
+
+
+def values_everywhere_two():
+    """The same of two-byte characters."""
+    return texts(b"a" + filled("\u00e9", POOL - 2), [(1 + 2 * i, POOL - 2 * ROWS) for i in range(ROWS - 1)], (0, 1))
+
+
+def values_turns():
+    """The same at two places in turn, of one slot."""
+    return texts(b"a" * POOL, [(2047 * (i % 2), POOL - 2047) for i in range(ROWS - 1)], (0, 1))
+
+
+def values_groups():
+    """Equal values in groups, of twelve lengths near 2,700, each in many places."""
+    return texts(b"a" * POOL, [(29 * i % 30000, 2700 - i % 12) for i in range(ROWS - 1)], (0, 1))
+
+
+def values_lengths():
+    """Values of all lengths up to 255, which overlap, each in four places."""
+    return texts(random_letters(10, 6500) * 5, [(i // 255 * 6500, 1 + i % 255) for i in range(ROWS - 1)], (0, 1))
+
+
+def values_alike():
+    """Values of 24 bytes and one hash, which overlap and are alike from the end."""
+    pool = collided("long", ROWS - 1, 24)
+    return texts(pool, [(3 * i, 24) for i in range(ROWS - 1)], (0, 1))
+
+
+def values_one_hash():
+    """Values of seven letters that share a hash."""
+    return texts(*sevens(ROWS - 1, "65536"), (0, 1))
+
+
+def fields_small():
+    """Different fields of one hash in a small bundle."""
+    return fields(*sevens(4 * 64, "65536"))
+
+
+def values_small():
+    """Overlapping values in a small bundle, which come apart to 32,761 bytes."""
+    return texts(random_letters(13, 4096), [(i, 520) for i in range(63)], (0, 1))
+
+
+def values_beyond():
+    """Overlapping values of 31 bytes that all fit, and in the last row one that does not."""
+    return texts(random_letters(11), [(i, 31) for i in range(ROWS - 2)] + [(0, 2000)], (0, 1))
+
+
 # ---- doubles
 
 def pairs():
@@ -795,7 +915,11 @@ NAMES_AND_VALUES = (alike_3072, alike_300, alike_192, alike_short, lengths_mixed
                     one_bucket, one_hash_late, long_at_last, refused_at_last, values_two, values_mixed, values_ef,
                     values_ef_bf, values_three, values_four, values_attributes, values_declared, spoiled_ascii, spoiled_ef,
                     spoiled_quotes, spoiled_quotes_ef, spoiled_between, spoiled_names, spoiled_last, quotes_all, quotes_small,
-                    quotes_letters, quotes_seldom, lines_in_tags, lines_in_texts, nothing_escaped, names_long_text)
+                    quotes_letters, quotes_seldom, lines_in_tags, lines_in_texts, nothing_escaped, names_long_text,
+                    fields_everywhere, fields_turns, fields_threes, fields_threes_named, fields_two, fields_eights, fields_one_hash,
+                    fields_one_bucket, fields_late,
+                    values_everywhere, values_everywhere_two, values_turns, values_groups, values_lengths, values_alike,
+                    values_one_hash, values_beyond, fields_small, values_small)
 IN_ROWS = (pairs, pairs_one_bucket, by_turns_far, by_turns_far_undeclared, by_turns_far_each, by_turns_far_deep, by_turns_bare,
            by_turns_references, equal_by_turns_bare, equal_by_turns_far, equal_by_turns_far_deep, equal_by_turns_2047,
            groups_by_turns, same_start_by_turns, hidden, hidden_first, hidden_asked, hidden_names, numbered_scopes,

@@ -138,6 +138,35 @@ def texts(rows):
     return table
 
 
+def dead(rows):
+    """As ordinary, over a pool of which seven eighths are names that no row has any more."""
+    table = ordinary(rows)
+    pool, moved = bytearray(), {NOTHING: NOTHING}
+    for offset, length in sorted(table.places.values()):
+        pool += (b"gone%d-" % offset * length)[:7 * length]
+        moved[offset, length] = len(pool), length
+        pool += table.pool[offset:offset + length]
+    table.rows = [(*row[:2], *(word for at in (2, 4, 6, 8) for word in moved[row[at:at + 2]])) for row in table.rows]
+    table.pool = pool
+    return table
+
+
+def parts(rows):
+    """Elements and texts by turns, whose names and values are parts of each other: packed, they come apart."""
+    table, numbers = Table(), Numbers(9)
+    root = start(table)
+    offset = len(table.pool)
+    table.pool += bytes(97 + numbers.below(26) for _ in range(2 * rows))
+    element = root
+    while len(table.rows) < rows:
+        at = offset + len(table.rows)
+        if len(table.rows) % 2:
+            element = table.add(1, root, local=(at, 8 + numbers.below(8)))
+        else:
+            table.add(3, element, value=(at, 16 + numbers.below(16)))
+    return table
+
+
 def long_names(rows):
     """Names that fill the pool."""
     table = Table()
@@ -443,6 +472,7 @@ def both_declared(rows):
 
 CHECKED = (ordinary, cyrillic, accent, apart, one_owner, texts, long_names)
 SLOW = (one_uri, overlapping, equal_names, by_turns_deep, by_turns_wide)
+PACKED = (dead, parts)
 ASKED = (chain,)
 WRITTEN = (long_texts, prose, escapes, quotes, tagged)
 NORMALIZED = (typical, deep, wide, shadowed, shadowed_once, numbered, references)
@@ -452,7 +482,7 @@ DEEPEST = (elements_own, elements_declared, references_own, references_declared,
 def main():
     if len(sys.argv) != 2:
         sys.exit(__doc__)
-    for make in CHECKED + ASKED + WRITTEN + NORMALIZED:
+    for make in CHECKED + PACKED + ASKED + WRITTEN + NORMALIZED:
         for rows in (250, 500, 1000):
             make(rows).write("%s/%s-%d" % (sys.argv[1], make.__name__, rows))
     for make in (ordinary, typical):

@@ -1,5 +1,6 @@
 /* A host's work: two makers hand over their nodes, each as a bundle of its own. The host grafts both into one session
-   bundle, asks what a prefix means at a node, writes the session as XML, normalizes it, and asks and writes again.
+   bundle, asks what a prefix means at a node, writes the session as XML, normalizes it, and asks and writes again. Then
+   the session is edited for some time, which leaves texts in its pool that no row uses any more, and is packed.
 
    The tree is printed like XML with the namespace URI of each name in braces. Those are what the makers meant; before
    normalization the declarations say something else, and there is no XML text that means the same. */
@@ -200,10 +201,35 @@ static void show(const char *title, const struct bundle *bundle, uint32_t row, c
     puts("");
 }
 
+/* Some edits of a text: each new one is put behind the pool, and the one before stays where it was, of no use. */
+static void edit_text(struct bundle *bundle, uint32_t row, int edits)
+{
+    static struct nodes nodes;
+    noemathu_sizes sizes = noemathu_read(bundle->bytes, bundle->length, nodes.table, NOEMATHU_MOST_WORDS, nodes.pool, sizeof nodes.pool);
+    stop_if(sizes.refusal);
+    nodes.rows = sizes.rows;
+    nodes.held = sizes.bytes;
+    noemathu_row text = noemathu_row_of(bundle->bytes, row);
+    for (int i = 1; i <= edits; i++) {
+        char bicycles[40];
+        snprintf(bicycles, sizeof bicycles, "%d bicycles, delivered by hand", i);
+        text.value = put(&nodes, bicycles);
+    }
+    noemathu_put_row(nodes.table, row, text);
+    write_bundle(&nodes, bundle);
+}
+
+/* How long a session is and how much of it is names, and its XML text. */
+static void show_size(const char *title, const struct bundle *bundle)
+{
+    printf("%s, %zu bytes, of which the pool is %zu:\n", title, bundle->length, noemathu_pool_length(bundle->bytes));
+    print_text(bundle);
+}
+
 int main(void)
 {
     static struct nodes order, person, nodes;
-    static struct bundle maker, session, normalized;
+    static struct bundle maker, session, normalized, packed;
     uint32_t root = add(&nodes, NOEMATHU_ELEMENT, NOEMATHU_NONE, "", "session", "urn:session", "");
 
     make_order(&order);
@@ -221,6 +247,14 @@ int main(void)
     stop_if(used.refusal);
     normalized.length = used.bytes;
     show("after", &normalized, second, "p");
+
+    edit_text(&normalized, first + 3, 30);
+    show_size("edited", &normalized);
+    used = noemathu_pack(normalized.bytes, normalized.length, packed.bytes, sizeof packed.bytes);
+    stop_if(used.refusal);
+    packed.length = used.bytes;
+    show_size("packed", &packed);
+    puts("");
 
     /* A maker who counts one byte too many: the length of a URI that ends with the pool. */
     add(&nodes, NOEMATHU_ELEMENT, root, "", "note", "urn:notes", "");
