@@ -253,7 +253,7 @@ any-alike test other d (suc r) (x ∷ xs) (y ∷ ys) h k e =
     let rest = any-alike test other d r xs ys (le-of-suc-le-suc h) (le-of-suc-le-suc k) (λ i l. e (suc i) (omega arith)) in
     rw (first, rest) refl
 
-any-none : {A : Type 0} (test : A → Bool) (d : A) (r : ℕ) (xs : List A) → r ≤ length xs → ((i : ℕ) → i < r → test (getD xs i d) ≡ false) → anyOf test (take r xs) ≡ false
+pub any-none : {A : Type 0} (test : A → Bool) (d : A) (r : ℕ) (xs : List A) → r ≤ length xs → ((i : ℕ) → i < r → test (getD xs i d) ≡ false) → anyOf test (take r xs) ≡ false
 any-none test d zero xs h e = refl
 any-none test d (suc r) [] h e = absurd (not-suc-le-zero h)
 any-none test d (suc r) (x ∷ xs) h e =

@@ -177,3 +177,15 @@ pub enum Written {
     Done { bytes: usize },
     Refused(Refusal),
 }
+
+// What salvage answers: how many rows of the output table it takes, and how many dropped rows the list holds.
+pub enum Salvaged {
+    Done { rows: usize, dropped: usize },
+    Refused(Refusal),
+}
+
+// What the salvage of a bundle answers: how many bytes of the output it takes, and how many dropped rows the list holds.
+pub enum Rescued {
+    Done { bytes: usize, dropped: usize },
+    Refused(Refusal),
+}
