@@ -8,11 +8,14 @@ ghost use Rattle.bundles.specs.Operations.{bundleRead, tableWritten, bundleChec
 ghost use Rattle.packing.specs.Packing.{bundlePacked};
 ghost use Rattle.markup.specs.Writing.{bundleText};
 ghost use Rattle.proposals.specs.Proposals.{bundleProposalChecked};
+ghost use Rattle.salvage_answers.specs.Given.{rescuedGiven};
+ghost use Rattle.salvage.specs.Salvage.{bundleSalvaged};
 use answers::Found;
 use output_answers::Sizes;
 use output_answers::Used;
 use refusal_numbers::Number;
 use rules::Row;
+use salvage_answers::Saved;
 
 // The first refusal that a bundle draws, or that it is accepted.
 #[no_mangle]
@@ -88,6 +91,18 @@ pub extern "C" fn noemathu_pack(bundle: &[u8], out: &mut [u8]) -> Used
     ensures { λ _. ⌜ now (out .exit) ≡ bundlePacked (now (bundle .entry)) (length (now (out .entry))) .bytes ⌝ }
 {
     output_answers::written(bundle_packing::pack(bundle, out))
+}
+
+// Salvages a bundle into a bundle, without the rows that draw 6 and those that draw 7 against a kept row, and lists these: two
+// words for each, the number that the row had, and 6 or 7. Success answers the bytes that it takes and how many rows are
+// dropped; the rest of both outputs is zero, and all of them after a refusal.
+#[no_mangle]
+pub extern "C" fn noemathu_salvage(bundle: &[u8], out: &mut [u8], list: &mut [u32]) -> Saved
+    ensures { λ r. ⌜ r ≡ rescuedGiven (bundleSalvaged (now (bundle .entry)) (length (now (out .entry))) (length (now (list .entry))) .answer) ⌝ }
+    ensures { λ _. ⌜ now (out .exit) ≡ bundleSalvaged (now (bundle .entry)) (length (now (out .entry))) (length (now (list .entry))) .bytes ⌝ }
+    ensures { λ _. ⌜ now (list .exit) ≡ bundleSalvaged (now (bundle .entry)) (length (now (out .entry))) (length (now (list .entry))) .list ⌝ }
+{
+    salvage_answers::rescued(bundle_salvage::salvage(bundle, out, list))
 }
 
 // Writes the XML text of an element, or of a document's element, and of all that it holds. Success answers the bytes that it

@@ -1,2 +1,3 @@
-pub mod Pass
 pub mod Rest
+pub mod Kept
+pub mod Going

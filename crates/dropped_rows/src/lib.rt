@@ -1,0 +1,1 @@
+// Which rows of a table salvage drops, and which it keeps.
