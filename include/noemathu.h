@@ -5,7 +5,8 @@
    and normalize a bundle: they set and add namespace declarations so that every
    element and attribute means the URI that its maker gave it. One judges a bundle
    that somebody else proposes for another, one leaves out the bytes of a pool that
-   no row uses any more, one writes an element as XML text, and two more turn a
+   no row uses any more, one leaves out declarations and attributes that may not
+   stand where they do, one writes an element as XML text, and two more turn a
    bundle into rows and names, and back.
 
    Link with -lnoemathu, or see `pkg-config --cflags --libs noemathu`. The
@@ -103,10 +104,10 @@
    freed; there is no global state. Calls may run at once in any threads, as long
    as none writes to what another one uses.
 
-   - A buffer is a pointer and a length, in bytes; for a table, in words. A
-     pointer with length 0 is not followed and may be NULL. With another length
-     it must point to as many bytes or words.
-   - Bytes may start at any address. A table must be aligned as uint32_t is.
+   - A buffer is a pointer and a length, in bytes; for a table or a list, in
+     words. A pointer with length 0 is not followed and may be NULL. With another
+     length it must point to as many bytes or words.
+   - Bytes may start at any address. Words must be aligned as uint32_t is.
    - What is read is never written to. Inputs may overlap each other: the prefix
      that you ask about may stand in the bundle that you ask.
    - An output must overlap nothing, neither an input nor another output. To
@@ -132,7 +133,8 @@
    The first fault is named. The numbers are tried in this order: 30, 31, 32; 1;
    then row after row, each for 2; its fields in order, each for 3 and 12; its
    fields again for 13, and again for 14; 4 to 7; then 8, 9; 10, 11, 33; 20, 21,
-   23, 24, 22. noemathu_check_proposal has 40 to 44, in this order, and no other.
+   23, 24, 22. noemathu_check_proposal has 40 to 44, in this order, and no other;
+   noemathu_salvage passes over 6 and 7.
 
    What was found is told by its place, an offset and a length in the pool of the
    bundle that was asked: see noemathu_bytes. */
@@ -149,7 +151,7 @@
 extern "C" {
 #endif
 
-#define NOEMATHU_VERSION "0.3.0"
+#define NOEMATHU_VERSION "0.4.0"
 
 /* The limits of a table, and of a bundle: 73,740 bytes. */
 #define NOEMATHU_ROW_WORDS 10
@@ -163,6 +165,10 @@ extern "C" {
 #define NOEMATHU_BUNDLE_BYTES(rows, pool_bytes) \
     (NOEMATHU_BUNDLE_HEADER + 4 * NOEMATHU_ROW_WORDS * (size_t)(rows) + (size_t)(pool_bytes))
 
+/* The words of the longest list that noemathu_salvage makes: the first row is never
+   dropped. */
+#define NOEMATHU_LIST_MOST (2 * (NOEMATHU_MOST_ROWS - 1))
+
 /* The bytes of the longest XML text there is: the pool is a letter and quotes, it
    is the value of 1,023 rows, and each quote is written as &quot; there. For what
    a bundle needs see noemathu_xml_room. */
@@ -171,14 +177,16 @@ extern "C" {
 /* Bytes of stack that are enough for any call. Measured were at most 82,592 for
    noemathu_write, 126,144 for noemathu_check and noemathu_read, 129,472 for the
    lookups, 216,144 for noemathu_check_proposal, 237,416 for noemathu_write_xml,
-   223,680 for noemathu_normalize and 236,392 for noemathu_pack. */
+   223,680 for noemathu_normalize, 236,488 for noemathu_pack and 174,280 for
+   noemathu_salvage. */
 #define NOEMATHU_STACK 262144
 
 /* A small bundle, or a small table and its pool, and the bytes of stack that are
    enough for any call on one. Measured were at most 22,000 for
    noemathu_write, 24,560 for noemathu_check and noemathu_read, 25,104 for the
    lookups, 35,912 for noemathu_check_proposal, 27,488 for noemathu_write_xml,
-   35,440 for noemathu_normalize and 38,568 for noemathu_pack. */
+   35,440 for noemathu_normalize, 38,664 for noemathu_pack and 27,576 for
+   noemathu_salvage. */
 #define NOEMATHU_FEW_ROWS 64
 #define NOEMATHU_SHORT_POOL 4096
 #define NOEMATHU_SMALL_STACK 40960
@@ -237,11 +245,12 @@ extern "C" {
 #define NOEMATHU_REFUSED_NAMESPACE 5
 
 /* The declaration rebinds `xml` or `xmlns`, binds another prefix to one of their
-   URIs, or takes the URI away from a prefix. Remove it. */
+   URIs, or takes the URI away from a prefix. Remove it, as noemathu_salvage does. */
 #define NOEMATHU_REFUSED_DECLARATION 6
 
 /* The row's owner has an earlier declaration of the same prefix, or an earlier
-   attribute of the same name. Remove one of the two. */
+   attribute of the same name. Remove one of the two; noemathu_salvage removes the
+   later one. */
 #define NOEMATHU_REFUSED_DOUBLE 7
 
 /* The row asked about is not in the bundle. Ask about one of its rows. */
@@ -252,8 +261,9 @@ extern "C" {
    row of type 1 or 2, with its URI. */
 #define NOEMATHU_REFUSED_LEVEL1 9
 
-/* The result has more rows than the output table, or than 1,024. Lend a larger
-   table; split the tree. */
+/* The result has more rows than the output table, or than 1,024, or more rows were
+   dropped than the list has pairs of words. Lend a larger table or list; split the
+   tree. */
 #define NOEMATHU_REFUSED_ROW_ROOM 10
 
 /* The result has more pool bytes than the output pool, or than 32,768. Lend a
@@ -427,6 +437,14 @@ typedef struct noemathu_used {
     size_t bytes;
 } noemathu_used;
 
+/* How many bytes of the output are used, and how many rows were dropped: the list
+   has two words for each. */
+typedef struct noemathu_salvaged {
+    noemathu_refusal refusal;
+    size_t bytes;
+    size_t dropped;
+} noemathu_salvaged;
+
 
 /* The functions. */
 
@@ -514,6 +532,27 @@ noemathu_used noemathu_normalize(const uint8_t *bundle, size_t length,
    32,768 bytes; 33. */
 noemathu_used noemathu_pack(const uint8_t *bundle, size_t length,
                             uint8_t *out, size_t out_size);
+
+/* Salvages a bundle of which noemathu_check refuses rows with 6 or 7: writes it
+   without exactly those that draw 6 and those that draw 7 against a row that is
+   kept. Kept rows stay in their order, with every word but the parent, which is the
+   same row's new number; the pool is copied whole. What is dropped is a declaration
+   or an attribute, and no row's parent.
+
+   The list gets two words for each dropped row, in row order: the number that it
+   had, and 6 or 7, which noemathu_text explains; 6 where it draws both.
+   NOEMATHU_LIST_MOST words are always enough, and as many bytes for the output as
+   the bundle has. Neither may overlap anything, and both are written whole.
+
+   What is written passes noemathu_check, and a bundle that passes it comes back
+   unchanged, with an empty list. That is all that is promised: where a declaration
+   was dropped, a prefix may mean another URI than it did, or none. Normalize
+   afterwards, and every element and attribute means its own again.
+
+   Refusals: 30 to 32, 1 to 5, 12 to 14, at the first row that draws one of them,
+   whatever rows before it are dropped; 10 where the list is too short; 33. */
+noemathu_salvaged noemathu_salvage(const uint8_t *bundle, size_t length, uint8_t *out, size_t out_size,
+                                   uint32_t *list, size_t list_words);
 
 /* Reads a bundle into a table and a pool. Refusals: 30 to 32, 1 to 7, 12 to 14;
    10 where the table has too few whole rows, 11 where the pool is too short. */
