@@ -99,7 +99,7 @@ static bool holds(const struct room *room, const void *bytes, size_t length)
            is_zero(room->lent + length, room->length - length);
 }
 
-static struct room bundle_room, query_room, table_room, pool_room, out_room, out_table_room, out_pool_room;
+static struct room bundle_room, query_room, table_room, pool_room, out_room, out_table_room, out_pool_room, list_room;
 
 static const struct where ENDS = {false, 0};
 
@@ -196,6 +196,14 @@ static void refused(const uint8_t *bundle, size_t length, uint32_t number, uint3
     EXPECT(is_refusal(used.refusal, number, row) && used.bytes == 0 && holds(&out_room, NULL, 0));
     take_back(&out_room);
 
+    lend(&out_room, NULL, 121, ENDS);
+    lend(&list_room, NULL, 4 * 5, ENDS);
+    noemathu_salvaged salvaged = noemathu_salvage(bundle, length, out_room.lent, out_room.length, (uint32_t *)list_room.lent, 5);
+    EXPECT(is_refusal(salvaged.refusal, number, row) && salvaged.bytes == 0 && salvaged.dropped == 0);
+    EXPECT(holds(&out_room, NULL, 0) && holds(&list_room, NULL, 0));
+    take_back(&out_room);
+    take_back(&list_room);
+
     lend(&out_room, NULL, 101, ENDS);
     used = noemathu_write_xml(bundle, length, 0, out_room.lent, out_room.length);
     EXPECT(is_refusal(used.refusal, number, row) && used.bytes == 0 && holds(&out_room, NULL, 0));
@@ -232,6 +240,7 @@ static void nothing_lent(void)
     EXPECT(is_nothing(noemathu_default_uri(NULL, 0, 0), 30, 0));
     EXPECT(is_refusal(noemathu_normalize(NULL, 0, NULL, 0).refusal, 30, 0));
     EXPECT(is_refusal(noemathu_pack(NULL, 0, NULL, 0).refusal, 30, 0));
+    EXPECT(is_refusal(noemathu_salvage(NULL, 0, NULL, 0, NULL, 0).refusal, 30, 0));
     EXPECT(is_refusal(noemathu_read(NULL, 0, NULL, 0, NULL, 0).refusal, 30, 0));
     EXPECT(is_refusal(noemathu_write(NULL, 0, NULL, 0, NULL, 0).refusal, 33, 0));
     EXPECT(is_refusal(noemathu_write_xml(NULL, 0, 0, NULL, 0).refusal, 30, 0));
@@ -255,6 +264,7 @@ static void nothing_lent(void)
     EXPECT(is_refusal(noemathu_normalize(bundle_a, sizeof bundle_a, NULL, 0).refusal, 33, 0));
     EXPECT(is_refusal(noemathu_pack(bundle_a, sizeof bundle_a, NULL, 0).refusal, 33, 0));
     EXPECT(is_refusal(noemathu_pack(bundle_none, sizeof bundle_none, NULL, 0).refusal, 33, 0));
+    EXPECT(is_refusal(noemathu_salvage(bundle_a, sizeof bundle_a, NULL, 0, NULL, 0).refusal, 33, 0));
     EXPECT(is_refusal(noemathu_read(bundle_a, sizeof bundle_a, NULL, 0, NULL, 0).refusal, 10, 0));
     EXPECT(is_refusal(noemathu_write_xml(result_a, sizeof result_a, 0, NULL, 0).refusal, 22, 0));
     EXPECT(is_refusal(noemathu_write_xml(result_a, sizeof result_a, 1, NULL, 0).refusal, 20, 1));
@@ -301,6 +311,28 @@ static void made_at(noemathu_used (*call)(const uint8_t *, size_t, uint8_t *, si
         EXPECT(is_refusal(used.refusal, 0, 0) && used.bytes == length && holds(&out_room, result, length));
     take_back(&bundle_room);
     take_back(&out_room);
+}
+
+/* Salvages a bundle into an output of this size and a list of so many words, where this comes of it, with so many pairs in the
+   list. */
+static void salvage_at(const uint8_t *bundle, size_t length, struct where where, size_t size, size_t words,
+                       const uint8_t *result, size_t result_length, const uint32_t *list, size_t dropped)
+{
+    lend(&bundle_room, bundle, length, where);
+    lend(&out_room, NULL, size, where);
+    lend(&list_room, NULL, 4 * words, (struct where){where.at_start, 4 * where.off});
+    noemathu_salvaged salvaged = noemathu_salvage(bundle_room.lent, length, size ? out_room.lent : NULL, size,
+                                                  words ? (uint32_t *)list_room.lent : NULL, words);
+    if (words / 2 < dropped || size < result_length) {
+        EXPECT(is_refusal(salvaged.refusal, words / 2 < dropped ? 10 : 33, 0) && salvaged.bytes == 0 && salvaged.dropped == 0);
+        EXPECT(holds(&out_room, NULL, 0) && holds(&list_room, NULL, 0));
+    } else {
+        EXPECT(is_refusal(salvaged.refusal, 0, 0) && salvaged.bytes == result_length && salvaged.dropped == dropped);
+        EXPECT(holds(&out_room, result, result_length) && holds(&list_room, list, 8 * dropped));
+    }
+    take_back(&bundle_room);
+    take_back(&out_room);
+    take_back(&list_room);
 }
 
 /* Reads a sample into outputs of these sizes, and writes what it holds. */
@@ -379,6 +411,8 @@ static void every_output_size(void)
                 made_at(noemathu_pack, sample, sample->packed, sample->packed_length, where, size);
             for (size_t size = 0; size < sample->length + 45; size++)
                 write_at(sample, where, size);
+            for (size_t size = 0; size < sample->length + 45; size++) /* what passes comes back */
+                salvage_at(sample->bundle, sample->length, where, size, size % 4, sample->bundle, sample->length, NULL, 0);
             for (size_t size = 0; size < strlen(sample->text) + 45; size++)
                 write_xml_at(sample, where, size);
             for (size_t words = 0; words < 10 * noemathu_row_count(sample->bundle) + 12; words++)
@@ -492,6 +526,10 @@ static void expect_judged(const uint32_t *table, const uint8_t *pool, size_t byt
     used = noemathu_pack(bundle_room.lent, length, out, sizeof out);
     EXPECT(is_field_refusal(used.refusal, number, row, word));
     EXPECT(number ? is_zero(out, sizeof out) : is_refusal(noemathu_check(out, used.bytes), 0, 0));
+    noemathu_salvaged salvaged = noemathu_salvage(bundle_room.lent, length, out, sizeof out, out_table, 20);
+    EXPECT(is_field_refusal(salvaged.refusal, number, row, word) && salvaged.dropped == 0);
+    EXPECT(number ? is_zero(out, sizeof out) : memcmp(out, bundle, length) == 0);
+    EXPECT(is_zero((uint8_t *)out_table, sizeof out_table));
     EXPECT(is_field_refusal(noemathu_read(bundle_room.lent, length, out_table, 20, out, sizeof out).refusal, number, row, word));
     /* the first element's URI is not declared; the value of the second row may be no text */
     used = noemathu_write_xml(bundle_room.lent, length, 0, out, sizeof out);
@@ -1100,6 +1138,124 @@ static void packing(void)
                    (word % 2 || word == 0 ? noemathu_word(made, i, word) : places[i][word / 2 - 1]));
 }
 
+/* ---- salvage */
+
+/* The bundle of the made table, whatever the check says of it. */
+static size_t unchecked_bundle(uint8_t *bytes)
+{
+    memcpy(bytes, bundle_none, 12);
+    set_number(bytes + 6, 2, made_rows);
+    set_number(bytes + 8, 4, made_held);
+    for (size_t i = 0; i < 10 * made_rows; i++)
+        set_number(bytes + NOEMATHU_BUNDLE_BYTES(0, 4 * i), 4, made_table[i]);
+    memcpy(bytes + NOEMATHU_BUNDLE_BYTES(made_rows, 0), made_pool, made_held);
+    return NOEMATHU_BUNDLE_BYTES(made_rows, made_held);
+}
+
+/* The made table, without the listed rows and with these parents, is what salvage gives, for every size of both outputs around
+   the exact one and at every alignment; and it passes the check. */
+static void expect_salvaged(const uint32_t *list, size_t dropped, const uint32_t *parents)
+{
+    static uint8_t bytes[NOEMATHU_BUNDLE_BYTES(10, 1000)], result[NOEMATHU_BUNDLE_BYTES(10, 1000)];
+    size_t length = unchecked_bundle(bytes), kept = 0;
+    for (size_t i = 0, k = 0; i < made_rows; i++) {
+        if (k < dropped && list[2 * k] == i) {
+            k++;
+            continue;
+        }
+        memmove(made_table + 10 * kept, made_table + 10 * i, 40);
+        made_table[10 * kept + 1] = parents[kept];
+        kept++;
+    }
+    made_rows = kept;
+    size_t exact = unchecked_bundle(result);
+    EXPECT(is_refusal(noemathu_check(result, exact), 0, 0));
+    for (size_t i = 0; i < 16; i++)
+        for (size_t words = 0; words < 2 * dropped + 5; words++)
+            for (size_t size = exact - 3; size < exact + 9; size++)
+                salvage_at(bytes, length, (struct where){i >= 8, i % 8}, size, words, result, exact, list, dropped);
+    for (size_t size = 0; size < exact; size += 7)
+        salvage_at(bytes, length, ENDS, size, 2 * dropped, result, exact, list, dropped);
+}
+
+/* An element with the same prefix four times: 6 drops the first and the last, so that 7 counts against the second; below it an
+   element with an attribute twice. */
+static void make_old(void)
+{
+    made_rows = made_held = 0;
+    set_row(0, NOEMATHU_ELEMENT, NOEMATHU_NONE, "a", "", "");
+    set_row(1, NOEMATHU_DECLARATION, 0, "p", "", "");
+    set_row(2, NOEMATHU_DECLARATION, 0, "p", "", "U");
+    set_row(3, NOEMATHU_DECLARATION, 0, "p", "", "V");
+    set_row(4, NOEMATHU_DECLARATION, 0, "p", "", "");
+    set_row(5, NOEMATHU_ELEMENT, 0, "p:b", "V", "");
+    set_row(6, NOEMATHU_ATTRIBUTE, 5, "q:c", "W", "1");
+    set_row(7, NOEMATHU_ATTRIBUTE, 5, "c", "W", "2");
+    set_row(8, NOEMATHU_TEXT, 5, "", "", "t");
+}
+
+/* Rows that draw 6 or 7, and faults among them. */
+static void salvage(void)
+{
+    static uint8_t bytes[sizeof made], out[sizeof made];
+    uint32_t list[20];
+    make_old();
+    expect_salvaged((const uint32_t[]){1, 6, 3, 7, 4, 6, 7, 7}, 4, (const uint32_t[]){NOEMATHU_NONE, 0, 0, 2, 2});
+
+    /* a fault in each row, behind rows that are dropped or not: it refuses, and nothing is listed */
+    for (size_t row = 0; row < 9; row++) {
+        make_old();
+        made_table[10 * row + 9] = 1000;
+        size_t length = unchecked_bundle(bytes);
+        memset(out, PATTERN, sizeof out);
+        memset(list, PATTERN, sizeof list);
+        noemathu_salvaged salvaged = noemathu_salvage(bytes, length, out, sizeof out, list, 20);
+        EXPECT(is_field_refusal(salvaged.refusal, 3, (uint32_t)row, 8) && salvaged.bytes == 0 && salvaged.dropped == 0);
+        EXPECT(is_zero(out, sizeof out) && is_zero((uint8_t *)list, sizeof list));
+    }
+
+    /* what no element owns is no double; a declaration without an owner is 2 */
+    made_rows = made_held = 0;
+    set_row(0, NOEMATHU_ATTRIBUTE, NOEMATHU_NONE, "a", "", "");
+    set_row(1, NOEMATHU_ATTRIBUTE, NOEMATHU_NONE, "a", "", "");
+    expect_salvaged(NULL, 0, (const uint32_t[]){NOEMATHU_NONE, NOEMATHU_NONE});
+    made_table[10] = NOEMATHU_DECLARATION;
+    EXPECT(is_refusal(noemathu_salvage(bytes, unchecked_bundle(bytes), out, sizeof out, list, 20).refusal, 2, 1));
+
+    /* Level 1: a second attribute of the same name is dropped, one of type 2 is not */
+    made_rows = made_held = 0;
+    set_row(0, NOEMATHU_LEVEL1_ELEMENT, NOEMATHU_NONE, "a", "", "");
+    set_row(1, NOEMATHU_LEVEL1_ATTRIBUTE, 0, "a", "", "");
+    set_row(2, NOEMATHU_ATTRIBUTE, 0, "a", "", "");
+    set_row(3, NOEMATHU_LEVEL1_ATTRIBUTE, 0, "a", "", "v");
+    set_row(4, NOEMATHU_LEVEL1_ELEMENT, 0, "a", "", "");
+    expect_salvaged((const uint32_t[]){3, 7}, 1, (const uint32_t[]){NOEMATHU_NONE, 0, 0, 0});
+
+    /* 1,023 rows that are dropped, and 1,022: the longest lists */
+    for (uint32_t value = 0; value < 2; value++) {
+        size_t length = make_large(1024, 32768, NOEMATHU_DECLARATION, false), kept = 1 + value;
+        static uint32_t most[NOEMATHU_LIST_MOST + 3];
+        for (uint32_t i = 1; i < 1024; i++) {
+            set_word(i, 5, 1);
+            set_word(i, 9, value);
+            most[2 * (i - 1)] = i + value;
+            most[2 * (i - 1) + 1] = 6 + value;
+        }
+        size_t exact = NOEMATHU_BUNDLE_BYTES(kept, 32768), dropped = 1024 - kept;
+        memcpy(slowly, large, NOEMATHU_BUNDLE_BYTES(kept, 0));
+        set_number(slowly + 6, 2, kept);
+        memcpy(slowly + NOEMATHU_BUNDLE_BYTES(kept, 0), noemathu_pool(large), 32768);
+        for (size_t words = 2 * dropped - 1; words < 2 * dropped + 3; words++)
+            for (size_t size = exact - 1; size < exact + 2; size++)
+                salvage_at(large, length, ENDS, size, words, slowly, exact, most, dropped);
+        EXPECT(2 * dropped <= NOEMATHU_LIST_MOST);
+    }
+    /* the largest that passes comes back */
+    size_t length = make_large(1024, 32768, NOEMATHU_TEXT, false);
+    salvage_at(large, length, ENDS, length, 0, large, length, NULL, 0);
+    salvage_at(large, length, ENDS, length - 1, 0, large, length, NULL, 0);
+}
+
 /* ---- the helpers of the header */
 
 /* A lookup of a URI found it so. */
@@ -1237,6 +1393,12 @@ static void run_in_scope_prefix(void)
 
 static void run_normalize(void) { noemathu_normalize(large, large_length, large_out, sizeof large_out); }
 static void run_pack(void) { noemathu_pack(large, large_length, large_out, sizeof large_out); }
+static void run_salvage(void)
+{
+    static uint32_t list[NOEMATHU_LIST_MOST];
+    noemathu_salvage(large, large_length, large_out, sizeof large_out, list, NOEMATHU_LIST_MOST);
+}
+
 static void run_read(void) { noemathu_read(large, large_length, large_table, 12000, large_out, sizeof large_out); }
 static void run_write(void)
 {
@@ -1274,7 +1436,8 @@ static size_t stack_of(void (*call)(void))
 }
 
 static void (*const calls[])(void) = {run_check, run_uri, run_prefix, run_default, run_in_scope_uri, run_in_scope_prefix,
-                                      run_normalize, run_pack, run_read, run_write, run_write_xml, run_check_proposal};
+                                      run_normalize, run_pack, run_salvage, run_read, run_write, run_write_xml,
+                                      run_check_proposal};
 
 enum { CALLS = sizeof calls / sizeof *calls };
 
@@ -1367,6 +1530,7 @@ int main(void)
     deepest_text();
     beyond_the_limits();
     packing();
+    salvage();
     helpers();
     proposals();
     stack_as_told();

@@ -1,6 +1,6 @@
 """A second reading of session bundles, over the second reading of the rules: what a bundle is, and what each function of
-the C interface answers and leaves in its outputs. It is written from the rules, without a look at the library, but for packing
-and XML text (reading.py).
+the C interface answers and leaves in its outputs. It is written from the rules, without a look at the library, but for
+packing, salvage and XML text (reading.py).
 
 A bundle, a pool and a query are strings of bytes, a table is a sequence of words, a row a number.
 
@@ -14,6 +14,7 @@ A bundle, a pool and a query are strings of bytes, a table is a sequence of word
     in_scope_prefix(bundle, row, query) -> (number, row, word, found, offset, length)
     normalize(bundle, out_size) -> (number, row, word, bytes, out)
     pack(bundle, out_size) -> (number, row, word, bytes, out)
+    salvage(bundle, out_size, list_words) -> (number, row, word, bytes, dropped, out, list)
     read(bundle, out_words, out_bytes) -> (number, row, word, rows, bytes, out_table, out_pool)
     write(table, pool, out_size) -> (number, row, word, bytes, out)
     write_xml(bundle, row, out_size) -> (number, row, word, bytes, out)
@@ -200,6 +201,19 @@ def result_written(making, bundle, out_size):
         return written(join(reading.words_of(tree), tree.pool), out_size)
     except Refused as refused:
         return (*refused.refusal, 0, bytes(out_size))
+
+
+def salvage(bundle, out_size, list_words):
+    """A bundle with the whole pool. 10, which speaks of the list, comes before 33."""
+    try:
+        table, pool = split(bundle)
+        refusal, tree, drops = reading.salvaged(table, pool)
+        refuse_if(refusal)
+        refuse_if(reading.Refusal(10 if reading.short_list(drops, list_words) else 0))
+        *used, out = written(join(reading.words_of(tree), tree.pool), out_size)
+    except Refused as refused:
+        return (*refused.refusal, 0, 0, bytes(out_size), (0,) * list_words)
+    return (*used, len(drops), out, reading.listed(drops, list_words))
 
 
 def write(table, pool, out_size):

@@ -641,6 +641,122 @@ def level1_not_packed():
     reading.packed = packed
 
 
+def dropped_rows_count():
+    """A row draws 7 against a dropped row too."""
+    right = reading.drop_number
+    reading.drop_number = lambda tree, row, held: right(tree, row, held) or (7 if reading.wrong_double(tree, row) else 0)
+
+
+def double_told_first():
+    """Where a row draws 6 and 7, 7 is told."""
+    right = reading.drop_number
+    reading.drop_number = lambda tree, row, held: (
+        7 if any(reading.is_double(row, other) for other in held) else right(tree, row, held))
+
+
+def attributes_not_dropped():
+    """Attributes that draw 7 are kept."""
+    right = reading.drop_number
+    reading.drop_number = lambda tree, row, held: right(tree, row, held) if row.type == reading.DECLARATION else 0
+
+
+def level1_doubles_kept():
+    """Attributes of DOM Level 1 that draw 7 are kept."""
+    right = reading.drop_number
+    reading.drop_number = lambda tree, row, held: 0 if row.type == reading.LEVEL1_ATTRIBUTE else right(tree, row, held)
+
+
+def parents_not_renumbered():
+    """A kept row has its parent's old number."""
+    reading.new_parent = lambda row, kept: row.parent
+
+
+def parents_moved_with_rows():
+    """A parent's number is less by what was dropped before the row, and not before the parent."""
+    right = reading.kept_and_dropped
+
+    def kept_and_dropped(tree):
+        made, drops = right(tree)
+        numbers = [row.number for row in tree.rows if row.number not in dict(drops)]
+        for row, old in zip(made.rows, numbers):
+            parent = tree.rows[old].parent
+            row.parent = parent if parent == reading.NONE else max(0, parent - (old - row.number))
+        return made, drops
+    reading.kept_and_dropped = kept_and_dropped
+
+
+def list_by_new_numbers():
+    """A dropped row is told by the number that it would have."""
+    reading.dropped_row = lambda row, made: len(made.rows)
+
+
+def list_room_in_words():
+    """The list has room for as many dropped rows as it has words."""
+    right = reading.short_list
+    reading.short_list = lambda drops, list_words: right(drops, list_words) and len(drops) > list_words
+
+
+def dropped_counted_in_words():
+    """The use of the list is answered in words."""
+    right = bundles.salvage
+
+    def salvage(bundle, out_size, list_words):
+        *answer, dropped, out, drops = right(bundle, out_size, list_words)
+        return (*answer, 2 * dropped, out, drops)
+    bundles.salvage = salvage
+
+
+def fault_behind_conflict_passed():
+    """A fault behind a row that is dropped is not seen."""
+    right = reading.faults
+
+    def faults(tree, row):
+        conflict = any(reading.wrong_declaration(tree, other) for other in tree.rows[:row.number])
+        return () if conflict else right(tree, row)
+    reading.faults = faults
+    reading.new_parent = lambda row, kept: kept.get(row.parent, 0)
+
+
+def conflict_refused_before_fault():
+    """Where a fault comes behind a row that draws 6, that row refuses."""
+    right = bundles.salvage
+
+    def salvage(bundle, out_size, list_words):
+        answer, checked = right(bundle, out_size, list_words), bundles.check(bundle)
+        return (*checked, *answer[3:]) if 1 < answer[0] < 10 and checked.number == 6 else answer
+    bundles.salvage = salvage
+
+
+def room_before_list():
+    """33 is tried before 10."""
+    right = bundles.salvage
+
+    def salvage(bundle, out_size, list_words):
+        answer = right(bundle, out_size, list_words)
+        return (33, *answer[1:]) if answer[0] == 10 and right(bundle, out_size, 2048)[0] == 33 else answer
+    bundles.salvage = salvage
+
+
+def list_left_after_refusal():
+    """The list is written, though 33 comes."""
+    right = bundles.salvage
+
+    def salvage(bundle, out_size, list_words):
+        answer = right(bundle, out_size, list_words)
+        return (*answer[:6], right(bundle, len(bundle), list_words)[6]) if answer[0] == 33 else answer
+    bundles.salvage = salvage
+
+
+def salvaged_pool_packed():
+    """The pool of a salvaged bundle is packed."""
+    right = reading.kept_and_dropped
+
+    def kept_and_dropped(tree):
+        made, drops = right(tree)
+        return (reading.packed_form(made), drops) if drops else (made, drops)
+    reading.kept_and_dropped = kept_and_dropped
+
+
 FAULTS = {fault.__name__: fault for fault in (
     shadowed_prefix, shadowed_own_prefix, element_by_uri_lookup, default_serves_attribute, bound_prefix_declared,
     declared_xml, xmlns_not_built_in, built_in_without_start, nothing_is_no_default, unprefixed_decides,
@@ -658,4 +774,7 @@ FAULTS = {fault.__name__: fault for fault in (
     declaration_value_compared, element_prefix_compared, ownerless_prefix_free, proposal_level1_first, missing_row_accepted,
     extra_rows_not_looked_at, unresolved_by_uri_lookup, ownerless_attribute_asked,
     words_before_rows, entries_by_place, entries_by_kind, part_of_entry_reused, empty_field_points, dead_bytes_kept,
-    packed_no_longer, packed_beyond_limit, level1_not_packed)}
+    packed_no_longer, packed_beyond_limit, level1_not_packed,
+    dropped_rows_count, double_told_first, attributes_not_dropped, level1_doubles_kept, parents_not_renumbered,
+    parents_moved_with_rows, list_by_new_numbers, list_room_in_words, dropped_counted_in_words, fault_behind_conflict_passed,
+    conflict_refused_before_fault, room_before_list, list_left_after_refusal, salvaged_pool_packed)}

@@ -3,8 +3,8 @@
     case(seed, number) -> Case
 
 The kinds, from common to rare: grafted trees, whose names and declarations come from several makers; typical trees, of
-one maker; damaged ones; plain ones, of elements, attributes, declarations and texts alone; wild ones, whose names keep no
-rule; random words; tables at the limits.
+one maker; damaged ones; plain ones, of elements, attributes, declarations and texts alone; old ones, with declarations and
+attributes that may not stand where they do; wild ones, whose names keep no rule; random words; tables at the limits.
 """
 from random import Random
 from typing import NamedTuple
@@ -136,8 +136,26 @@ class NoRule:
     attribute = declaration = element
 
 
-def grow(maker, names, size, level1=False, doubles=False, plain=False):
-    """Lets the table grow to some size, at random places. Where nothing of its kind may stand, nothing is added."""
+class OldMakers(ManyMakers):
+    """Few names and declarations, of which some are illegal."""
+
+    def __init__(self, random):
+        super().__init__(random)
+        self.prefixes, self.uris = self.prefixes[:2], self.uris[:2]
+
+    def declaration(self):
+        chance = self.random.random()
+        if chance < 0.6:
+            return super().declaration()
+        if chance < 0.8:
+            return self.random.choice(self.prefixes), b""
+        return self.random.choice(((b"xmlns", self.uris[0]), (b"xml", self.uris[0]), (b"xml", b""), (b"", XML_URI),
+                                   (self.prefixes[0], XML_URI), (self.prefixes[0], XMLNS_URI), (b"", XMLNS_URI)))
+
+
+def grow(maker, names, size, level1=False, doubles=False, plain=False, old=False):
+    """Lets the table grow to some size, at random places. Where nothing of its kind may stand, nothing is added, but for doubles of
+    what an element owns in an old table."""
     random = maker.random
     elements, holders, documents, types = [], [], [], []
     for _ in range(random.choice((1, 1, 1, 2))):
@@ -163,21 +181,21 @@ def grow(maker, names, size, level1=False, doubles=False, plain=False):
                 elements.append(maker.add(1, parent, prefix, random.choice(NAMES), uri))
         elif chance < 0.6:
             prefix, uri = names.declaration()
-            if maker.free(13, owner, prefix) or doubles:
+            if maker.free(13, owner, prefix) or doubles or old:
                 maker.add(13, owner, local_name=prefix, value=uri)
         elif chance < 0.85:
             owner = NONE if random.random() < 0.05 else owner
             value = random.choice(VALUES)
             if level1 and random.random() < 0.3:
                 name = random.choice(WHOLE_NAMES)
-                if owner == NONE or maker.free(258, owner, name) or doubles:
+                if owner == NONE or maker.free(258, owner, name) or doubles or old:
                     maker.add(258, owner, local_name=name, value=value)
             else:
                 prefix, uri = names.attribute()
                 name = random.choice(NAMES)
                 if not prefix and name == b"xmlns" and not doubles:
                     name = b"a"
-                if owner == NONE or maker.free(2, owner, uri, name) or doubles:
+                if owner == NONE or maker.free(2, owner, uri, name) or doubles or old:
                     maker.add(2, owner, prefix, name, uri, value)
         elif plain:
             maker.add(3, random.choice(elements), value=random.choice(VALUES))
@@ -224,6 +242,19 @@ def plain(random):
     names = random.choice((OneMaker, ManyMakers))(random)
     grow(maker, names, small(random), plain=True)
     return maker.table(), bytes(maker.pool)
+
+
+def old(random):
+    """Some of what its elements own stands there again; now and then with a fault in one of its rows."""
+    maker = Maker(random)
+    grow(maker, OldMakers(random), small(random), level1=random.random() < 0.4, plain=random.random() < 0.3, old=True)
+    owned = [row for row in maker.rows if row[0] in (2, 13, 258)]
+    for row in random.sample(owned, min(len(owned), random.choice((0, 0, 1, 2)))):
+        maker.rows.append([*row[:8], *maker.place(random.choice((b"", b"U", b"value")))])
+    table, pool = maker.table(), bytearray(maker.pool)
+    if table and random.random() < 0.15:
+        random.choice((damage_fields, damage_encoding))(random, table, pool, 10 * random.randrange(len(table) // 10))
+    return table, bytes(pool)
 
 
 def wild(random):
@@ -371,12 +402,27 @@ def shared(maker, bytes):
         maker.rows.append([3, root, 0, 0, 0, 0, 0, 0, random.randint(4, len(maker.pool) - length), length])
 
 
+def conflicting(maker, rows):
+    """So many rows, of which all that an element owns are illegal or doubles, but for a few; below it stands another element."""
+    random = maker.random
+    root = maker.add(1, NONE, local_name=b"root")
+    while len(maker.rows) < rows:
+        if random.random() < 0.002:
+            root = maker.add(1, root, local_name=b"a")
+        elif random.random() < 0.5:
+            maker.add(13, root, local_name=b"p", value=random.choice((b"", b"", b"U")))
+        else:
+            maker.add(2, root, local_name=b"a")
+
+
 def limits(random):
     """Tables at the limits: the rows and the pool of the input, or those of a result."""
     maker, about = Maker(random), random.choice((-1, 0, 0, 1))
     what = random.choice(("rows", "rows", "rows of the result", "bytes", "bytes of the result",
-                          "bytes that come apart", "bytes that come apart"))
-    if what == "bytes that come apart":
+                          "bytes that come apart", "bytes that come apart", "conflicts"))
+    if what == "conflicts":
+        conflicting(maker, MOST_WORDS // 10 + about)
+    elif what == "bytes that come apart":
         shared(maker, MOST_BYTES + about)
     elif what == "rows":
         full(maker, MOST_WORDS // 10 + about)
@@ -400,7 +446,7 @@ def limits(random):
     return table, bytes(maker.pool)
 
 
-KINDS = ((grafted, 35), (typical, 15), (damaged, 20), (plain, 12), (wild, 8), (random_words, 9), (limits, 1))
+KINDS = ((grafted, 32), (typical, 13), (damaged, 18), (plain, 12), (old, 9), (wild, 7), (random_words, 8), (limits, 1))
 
 
 def held(random, table, pool, words):

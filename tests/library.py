@@ -40,6 +40,10 @@ class Used(ctypes.Structure):
     _fields_ = [("refusal", Refusal), ("bytes", SIZE)]
 
 
+class Salvaged(ctypes.Structure):
+    _fields_ = [("refusal", Refusal), ("bytes", SIZE), ("dropped", SIZE)]
+
+
 BUFFER = [BYTES, SIZE]
 LOOKUP = BUFFER + [WORD, ctypes.c_char_p, SIZE]
 
@@ -54,6 +58,7 @@ FUNCTIONS = {
     "in_scope_prefix": (LOOKUP, Found),
     "normalize": (BUFFER * 2, Used),
     "pack": (BUFFER * 2, Used),
+    "salvage": (BUFFER * 3, Salvaged),
     "read": (BUFFER * 3, Sizes),
     "write": (BUFFER * 3, Used),
     "write_xml": (BUFFER + [WORD] + BUFFER, Used),
@@ -122,7 +127,7 @@ class Library:
             function = getattr(loaded, "noemathu_" + operation)
             function.argtypes, function.restype = parameters, result
             self.functions[operation] = function
-        self.rooms = {name: Room() for name in ("bundle", "proposal", "table", "pool", "out", "out_table", "out_pool")}
+        self.rooms = {name: Room() for name in ("bundle", "proposal", "table", "pool", "out", "out_table", "out_pool", "out_list")}
         self.lent, self.shift = {}, 0
 
     def lend(self, bundle, table, pool, shift):
@@ -174,6 +179,12 @@ class Library:
                                            *self.rooms["out"].lend(size, self.shift))
         return (*answer.refusal.given(), answer.bytes, self.rooms["out"].taken_back("the output"))
 
+    def salvage(self, operation, size, count):
+        out = self.rooms["out"].lend(size, self.shift)
+        answer = self.functions[operation](*self.lent["bundle"], *out, *self.lend_words("out_list", count))
+        return (*answer.refusal.given(), answer.bytes, answer.dropped, self.rooms["out"].taken_back("the output"),
+                self.words_back("out_list", "the list"))
+
     def write_xml(self, operation, row, size):
         answer = self.functions[operation](*self.lent["bundle"], row, *self.rooms["out"].lend(size, self.shift))
         return (*answer.refusal.given(), answer.bytes, self.rooms["out"].taken_back("the output"))
@@ -182,8 +193,13 @@ class Library:
         return self.room_for_text(self.lent["bundle"][0])
 
     def read(self, operation, count, size):
-        table = self.rooms["out_table"].lend(4 * count, 4 * self.shift)[0], count
+        table = self.lend_words("out_table", count)
         answer = self.functions[operation](*self.lent["bundle"], *table, *self.rooms["out_pool"].lend(size, self.shift))
-        return (*answer.refusal.given(), answer.rows, answer.bytes,
-                tuple(memoryview(self.rooms["out_table"].taken_back("the output table")).cast("I")),
+        return (*answer.refusal.given(), answer.rows, answer.bytes, self.words_back("out_table", "the output table"),
                 self.rooms["out_pool"].taken_back("the output pool"))
+
+    def lend_words(self, name, count):
+        return self.rooms[name].lend(4 * count, 4 * self.shift)[0], count
+
+    def words_back(self, name, told):
+        return tuple(memoryview(self.rooms[name].taken_back(told)).cast("I"))

@@ -1,6 +1,6 @@
-"""A second reading of the rules: the check of a node table, the lookups, normalization, packing and XML text, as docs/RULES.md
-says them, in its order and words. The check, the lookups and normalization were written without a look at the library, the others
-after their definitions had been read. tests/compare holds the library to it.
+"""A second reading of the rules: the check of a node table, the lookups, normalization, packing, salvage and XML text, as
+docs/RULES.md says them, in its order and words. The check, the lookups and normalization were written without a look at the
+library, the others after their definitions had been read. tests/compare holds the library to it.
 
 A table is a sequence of words, a pool a string of bytes, a row a number, a query a string of bytes.
 
@@ -14,6 +14,7 @@ A table is a sequence of words, a pool a string of bytes, a row a number, a quer
     in_scope_prefix(table, pool, row, query) -> (number, row, word, kind, offset, length)
     normalize(table, pool, out_words, out_bytes) -> (number, row, word, rows, bytes, out_table, out_pool)
     pack(table, pool, out_words, out_bytes) -> (number, row, word, rows, bytes, out_table, out_pool)
+    salvage(table, pool, out_words, list_words) -> (number, row, word, rows, dropped, out_table, list)
     write_xml(table, pool, row, out_size) -> (number, row, word, bytes, out)
 
 Number 0 is no refusal. A kind is "none", "place", "xml" or "xmlns", of which the last two are built in.
@@ -704,6 +705,91 @@ def new_entry(made, text):
 
 def empty_field(made):
     return EMPTY
+
+
+# Salvage.
+
+def salvage(table, pool, out_words, list_words):
+    """A table without exactly the rows that draw refusal 6 and those that draw 7 against a kept row; each dropped row by its old
+    number and its refusal, as two words, rows ascending, in a list, whose use is answered in dropped rows. If the list or table
+    is too short: 10."""
+    refusal, tree, drops = salvaged(tuple(table), bytes(pool))
+    if refusal.number == 0 and (len(tree.rows) > out_words // WIDTH or short_list(drops, list_words)):
+        refusal = Refusal(10)
+    if refusal.number != 0:
+        return (*refusal, 0, 0, (0,) * out_words, (0,) * list_words)
+    words = words_of(tree)
+    return (*refusal, len(tree.rows), len(drops), words + (0,) * (out_words - len(words)), listed(drops, list_words))
+
+
+@lru_cache(maxsize=1)
+def salvaged(table, pool):
+    """The refusal; or no refusal, the result, whatever room there is for it, and the dropped rows, each with its number. Refusals
+    1 to 5, with the numbers added since, refuse as before, at the first such row."""
+    if wrong_size(table, pool):
+        return Refusal(1), None, ()
+    tree = Tree(table, pool)
+    for row in tree.rows:
+        for number, word, drawn in faults(tree, row):
+            if drawn:
+                return Refusal(number, row.number, word), None, ()
+    return NOT_REFUSED, *kept_and_dropped(tree)
+
+
+def faults(tree, row):
+    """What a row is tried for, but for 6 and 7."""
+    return (tried for tried in tries(tree, row) if tried[0] not in (6, 7))
+
+
+def kept_and_dropped(tree):
+    """The kept rows, with their parents renumbered, over the same pool; the dropped ones, rows ascending."""
+    made, kept, drops = Tree((), tree.pool), {NONE: NONE}, []
+    held = {}
+    for row in tree.rows:
+        number = drop_number(tree, row, held.get(row.parent, ()))
+        if number == 0:
+            held.setdefault(row.parent, []).append(row)
+            kept[row.number] = len(made.rows)
+            made.add(Row(len(made.rows), row.type, new_parent(row, kept), *row.fields()))
+        else:
+            drops.append((dropped_row(row, made), number))
+    return made, drops
+
+
+def drop_number(tree, row, held):
+    """6, or 7 against a row that is kept; 6 where both; 0 for none."""
+    if wrong_declaration(tree, row):
+        return 6
+    return 7 if any(is_double(row, other) for other in held) else 0
+
+
+def is_double(row, other):
+    """The same owner (not NONE): both 13 with one declared prefix; both 2 with one URI and local name; both 258 with one name."""
+    return (row.parent == other.parent != NONE and row.type == other.type
+            and row.type in (DECLARATION, ATTRIBUTE, LEVEL1_ATTRIBUTE)
+            and row.local_name.text == other.local_name.text
+            and (row.type != ATTRIBUTE or row.uri.text == other.uri.text))
+
+
+def new_parent(row, kept):
+    """The number that the parent has now."""
+    return kept[row.parent]
+
+
+def dropped_row(row, made):
+    """A dropped row is told by its old number."""
+    return row.number
+
+
+def short_list(drops, list_words):
+    """A list counts its whole pairs."""
+    return len(drops) > list_words // 2
+
+
+def listed(drops, list_words):
+    """Two words for each, and zeros."""
+    words = tuple(word for drop in drops for word in drop)
+    return words + (0,) * (list_words - len(words))
 
 
 # XML text.
