@@ -2,7 +2,7 @@
 #
 #   make                        proves and builds target/staticlib/libnoemathu.a; needs the kit (`rt`)
 #   make install PREFIX=DIR     puts header, library, pkg-config file and man page below DIR; DESTDIR goes before it
-#   make example                builds target/example/host, target/example/planner and target/example/ten_lines
+#   make example                builds target/example/host, planner, salvage and ten_lines
 #   make test                   the tests of the C interface
 #
 # LIBRARY=FILE takes another static library instead of building one.
@@ -36,7 +36,7 @@ install: $(LIBRARY)
 	$(INSTALL) -m 644 target/noemathu.pc $(root)/lib/pkgconfig/noemathu.pc
 	$(INSTALL) -m 644 man/noemathu.3 $(root)/share/man/man3/noemathu.3
 
-example: target/example/host target/example/planner target/example/ten_lines
+example: target/example/host target/example/planner target/example/salvage target/example/ten_lines
 
 target/example/%: example/%.c include/noemathu.h $(LIBRARY)
 	mkdir -p target/example
@@ -63,6 +63,8 @@ test-example: example
 	cmp target/example/host.stdout example/host.stdout
 	target/example/planner >target/example/planner.stdout
 	cmp target/example/planner.stdout example/planner.stdout
+	target/example/salvage >target/example/salvage.stdout
+	cmp target/example/salvage.stdout example/salvage.stdout
 	target/example/ten_lines <example/element.ntb >target/example/ten_lines.stdout
 	cmp target/example/ten_lines.stdout example/ten_lines.stdout
 	sed -n '/^```c$$/,/^```$$/p' README.md | sed -e '/^```$$/q' | sed -e '/^```/d' >target/example/shown.c

@@ -1,7 +1,7 @@
 /* Runs an operation on a bundle from a file, so many times, and prints what it answers: the number and row of the refusal,
    what a lookup finds and how long it is, how many rows and bytes an output takes. The operation `copy` is what writing XML
    text is held against: the check, and a copy, byte by byte, of the text that is there already; `memcpy` makes the copy by
-   the C library. Packing writes into an output of just as many bytes as it takes.
+   the C library. Packing and salvage write into outputs of just as many bytes and words as they take.
    An operation whose name begins with `table_` is run over the table and the pool that the bundle stands for
    (bench/over-tables), and one that ends in `_small` writes into small outputs. Run 0 times, an operation is run once on a
    stack of its own, and the bytes of stack that it took are printed.
@@ -73,6 +73,18 @@ static void pack(void)
     noemathu_used used = noemathu_pack(bundle, length, out, exact);
     refusal = used.refusal;
     answer[0] = used.bytes;
+}
+
+/* The list of dropped rows, and the words that it takes. */
+static uint32_t list[NOEMATHU_LIST_MOST];
+static size_t listed;
+
+static void salvage(void)
+{
+    noemathu_salvaged salvaged = noemathu_salvage(bundle, length, out, exact, list, listed);
+    refusal = salvaged.refusal;
+    answer[0] = salvaged.bytes;
+    answer[1] = salvaged.dropped;
 }
 
 static void read_bundle(void)
@@ -178,7 +190,7 @@ static const struct {
     const char *name;
     void (*run)(void);
 } operations[] = {{"check", check}, {"check_proposal", check_proposal}, {"uri", uri}, {"prefix", prefix}, {"default", default_uri},
-                  {"in_scope_uri", in_scope_uri}, {"in_scope_prefix", in_scope_prefix}, {"normalize", normalize}, {"pack", pack},
+                  {"in_scope_uri", in_scope_uri}, {"in_scope_prefix", in_scope_prefix}, {"normalize", normalize}, {"pack", pack}, {"salvage", salvage},
                   {"read", read_bundle}, {"write", write_bundle}, {"write_xml", write_xml}, {"copy", copy},
                   {"memcpy", copy_at_once}, {"normalize_small", normalize_small}, {"table_check", table_check},
                   {"table_uri", table_uri}, {"table_prefix", table_prefix}, {"table_default", table_default},
@@ -243,6 +255,11 @@ int main(int argc, char **argv)
         write_xml();
     if (operation == pack)
         exact = noemathu_pack(bundle, length, out, sizeof out).bytes;
+    if (operation == salvage) {
+        noemathu_salvaged salvaged = noemathu_salvage(bundle, length, out, sizeof out, list, NOEMATHU_LIST_MOST);
+        exact = salvaged.bytes;
+        listed = 2 * salvaged.dropped;
+    }
     if (atol(argv[3]) == 0) {
         printf("%zu\n", stack_of(operation) - stack_of(nothing));
         return 0;

@@ -3,7 +3,7 @@
 
 Usage: bench/hostile.py DIR COLLIDE, at the top of the repository
 
-Each is accepted by the check, unless its name says so, and has as many rows as its name says. COLLIDE is the program
+Each is accepted by the check, but for those whose name says that they are refused or old, and has as many rows as its name says. COLLIDE is the program
 bench/collide.c, which finds names that share a hash. The file DIR/hostile lists the bundles, those that bench/tables.py makes
 to be slow among them, and DIR/asked those of them whose rows are made to be slow, and some others. Prints how many of the
 names that should share a hash do, and exits 1 if not all.
@@ -674,6 +674,25 @@ def pairs_one_bucket():
     return table
 
 
+def old_pairs_one_bucket():
+    """Such attributes, and half of the rows the same ones again, which are dropped."""
+    table = pairs_one_bucket()
+    first = next(i for i, row in enumerate(table.rows) if row[0] == 2)
+    half = (ROWS - first) // 2
+    table.rows[first + half:] = table.rows[first:first + half]
+    return table
+
+
+def old_equal_long():
+    """One element's attributes and declarations, whose names are equal and of 29,696 bytes, each in a place of its own: all but two
+    are dropped."""
+    table = made(b"a" * POOL)
+    table.add(1, NONE, local=(0, 1))
+    for i in range(ROWS - 1):
+        table.add(13 if i % 2 else 2, 0, local=(i, POOL - NAMES), value=(i + 7, POOL - NAMES))
+    return table
+
+
 # ---- rows
 
 def by_turns_far():
@@ -920,7 +939,7 @@ NAMES_AND_VALUES = (alike_3072, alike_300, alike_192, alike_short, lengths_mixed
                     fields_one_bucket, fields_late,
                     values_everywhere, values_everywhere_two, values_turns, values_groups, values_lengths, values_alike,
                     values_one_hash, values_beyond, fields_small, values_small)
-IN_ROWS = (pairs, pairs_one_bucket, by_turns_far, by_turns_far_undeclared, by_turns_far_each, by_turns_far_deep, by_turns_bare,
+IN_ROWS = (pairs, pairs_one_bucket, old_pairs_one_bucket, old_equal_long, by_turns_far, by_turns_far_undeclared, by_turns_far_each, by_turns_far_deep, by_turns_bare,
            by_turns_references, equal_by_turns_bare, equal_by_turns_far, equal_by_turns_far_deep, equal_by_turns_2047,
            groups_by_turns, same_start_by_turns, hidden, hidden_first, hidden_asked, hidden_names, numbered_scopes,
            numbered_names, documents, documents_by_turns)

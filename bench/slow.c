@@ -42,6 +42,12 @@ static void normalize(void) { refusal = noemathu_normalize(bundle, length, out, 
 
 static void pack(void) { refusal = noemathu_pack(bundle, length, out, sizeof out).refusal; }
 
+static void salvage(void)
+{
+    static uint32_t list[NOEMATHU_LIST_MOST];
+    refusal = noemathu_salvage(bundle, length, out, sizeof out, list, NOEMATHU_LIST_MOST).refusal;
+}
+
 static void read_bundle(void)
 {
     noemathu_sizes sizes = noemathu_read(bundle, length, table, NOEMATHU_MOST_WORDS, pool, sizeof pool);
@@ -72,7 +78,7 @@ static const struct {
     void (*run)(void);
 } operations[] = {{"check", check}, {"uri", uri}, {"prefix", prefix}, {"default", default_uri}, {"in_scope_uri", in_scope_uri},
                   {"in_scope_prefix", in_scope_prefix}, {"query_pool", query_pool}, {"query_long", query_long},
-                  {"query_huge", query_huge}, {"normalize", normalize}, {"pack", pack}, {"read", read_bundle}, {"write", write_bundle},
+                  {"query_huge", query_huge}, {"normalize", normalize}, {"pack", pack}, {"salvage", salvage}, {"read", read_bundle}, {"write", write_bundle},
                   {"xml_room", xml_room}, {"xml_none", xml_none}, {"xml_half", xml_half}, {"xml_less", xml_less},
                   {"xml_exact", xml_exact}};
 

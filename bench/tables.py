@@ -167,6 +167,26 @@ def parts(rows):
     return table
 
 
+def old(rows, mended=False):
+    """Elements with two attributes and two declarations each; at one element in five one of each may not stand where it does."""
+    table, numbers = Table(), Numbers(10)
+    root = start(table)
+    while len(table.rows) + 5 <= rows:
+        k = numbers.below(4)
+        element = add_element(table, numbers, root, k)
+        conflict = numbers.below(5) == 0 and not mended
+        for word in ("id", "id" if conflict else "lang"):
+            table.add(2, element, local=table.place(word), value=table.place("value%d" % numbers.below(200)))
+        table.add(13, element, local=table.place("x"), value=table.place(URIS[k]))
+        table.add(13, element, local=table.place("y"), value=NOTHING if conflict else table.place(URIS[k]))
+    return fill(table, root, rows)
+
+
+def mended(rows):
+    """The same with rows that may stand there."""
+    return old(rows, True)
+
+
 def long_names(rows):
     """Names that fill the pool."""
     table = Table()
@@ -473,6 +493,7 @@ def both_declared(rows):
 CHECKED = (ordinary, cyrillic, accent, apart, one_owner, texts, long_names)
 SLOW = (one_uri, overlapping, equal_names, by_turns_deep, by_turns_wide)
 PACKED = (dead, parts)
+SALVAGED = (old, mended)
 ASKED = (chain,)
 WRITTEN = (long_texts, prose, escapes, quotes, tagged)
 NORMALIZED = (typical, deep, wide, shadowed, shadowed_once, numbered, references)
@@ -482,7 +503,7 @@ DEEPEST = (elements_own, elements_declared, references_own, references_declared,
 def main():
     if len(sys.argv) != 2:
         sys.exit(__doc__)
-    for make in CHECKED + PACKED + ASKED + WRITTEN + NORMALIZED:
+    for make in CHECKED + PACKED + SALVAGED + ASKED + WRITTEN + NORMALIZED:
         for rows in (250, 500, 1000):
             make(rows).write("%s/%s-%d" % (sys.argv[1], make.__name__, rows))
     for make in (ordinary, typical):
@@ -491,7 +512,7 @@ def main():
         for seed in range(100):
             bundle = grown(1000, 1000 + seed).bundle()
             out.write(struct.pack("<I", len(bundle)) + bundle)
-    for make in CHECKED[:1] + ASKED + WRITTEN[4:] + NORMALIZED + SLOW[-2:] + DEEPEST:
+    for make in CHECKED[:1] + SALVAGED[:1] + ASKED + WRITTEN[4:] + NORMALIZED + SLOW[-2:] + DEEPEST:
         make(64).write("%s/%s-64" % (sys.argv[1], make.__name__))
     for make in SLOW + DEEPEST:
         make(1024).write("%s/%s-1024" % (sys.argv[1], make.__name__))
