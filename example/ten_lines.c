@@ -7,7 +7,7 @@ int main(void)
     size_t length = fread(session, 1, sizeof session, stdin);
     noemathu_used made = noemathu_normalize(session, length, result, sizeof result);
     if (made.refusal.number) {
-        printf("refused, row %u: %s\n", made.refusal.row, noemathu_text(made.refusal.number));
+        printf("refusal %u: %s\n", made.refusal.number, noemathu_text(made.refusal.number));
         return 1;
     }
     noemathu_found uri = noemathu_in_scope_uri(result, made.bytes, 0, NULL, 0);

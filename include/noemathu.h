@@ -512,7 +512,14 @@ noemathu_found noemathu_in_scope_prefix(const uint8_t *bundle, size_t length, ui
    pool. Afterwards the in-scope URI of every element's and every owned
    attribute's prefix is its URI. Refusals: 30 to 32, 1 to 7, 12 to 14, 9; 10 and
    11 where the result is beyond the limits of a table; 33. What it writes
-   passes noemathu_check. */
+   passes noemathu_check.
+
+   Names keep their meaning by it, prefixes inside values do not: nobody but
+   their reader knows that ref="p:layer" holds one. An element with that value,
+   moved from a schema in which p means urn:maps into one in which it means
+   urn:cakes, refers to another layer there. To keep it, give the element a
+   declaration of its own for every prefix in scope where it comes from, as the
+   command noemathu does in `cut` and `graft`. */
 noemathu_used noemathu_normalize(const uint8_t *bundle, size_t length,
                                  uint8_t *out, size_t out_size);
 
