@@ -176,16 +176,16 @@ extern "C" {
 
 /* Bytes of stack that are enough for any call. Measured were at most 82,592 for
    noemathu_write, 126,144 for noemathu_check and noemathu_read, 129,472 for the
-   lookups, 216,144 for noemathu_check_proposal, 237,416 for noemathu_write_xml,
-   223,680 for noemathu_normalize, 236,488 for noemathu_pack and 174,280 for
+   lookups, 216,176 for noemathu_check_proposal, 237,416 for noemathu_write_xml,
+   223,680 for noemathu_normalize, 236,424 for noemathu_pack and 174,184 for
    noemathu_salvage. */
 #define NOEMATHU_STACK 262144
 
 /* A small bundle, or a small table and its pool, and the bytes of stack that are
    enough for any call on one. Measured were at most 22,000 for
    noemathu_write, 24,560 for noemathu_check and noemathu_read, 25,104 for the
-   lookups, 35,912 for noemathu_check_proposal, 27,488 for noemathu_write_xml,
-   35,440 for noemathu_normalize, 38,664 for noemathu_pack and 27,576 for
+   lookups, 35,912 for noemathu_check_proposal, 27,560 for noemathu_write_xml,
+   35,512 for noemathu_normalize, 38,600 for noemathu_pack and 27,480 for
    noemathu_salvage. */
 #define NOEMATHU_FEW_ROWS 64
 #define NOEMATHU_SHORT_POOL 4096
