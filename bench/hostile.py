@@ -566,6 +566,41 @@ def fields_threes_named():
     return table
 
 
+def fields_threes_with(values):
+    """The same with other values."""
+    table = fields_threes()
+    table.rows = [(*row[:8], *value) for row, value in zip(table.rows, values)]
+    return table
+
+
+def fields_threes_slot():
+    """Values of 29,694 bytes at four places of one slot, which start where blocks do."""
+    return fields_threes_with([(3 + 1023 * (i % 4), POOL // 3 * 3 - 3 * 1024) for i in range(ROWS)])
+
+
+def fields_threes_parts():
+    """Values of 3,069 bytes at many places, which start where blocks do."""
+    places = [i for i in range(0, POOL - 3072, 3) if i % BLOCK < 8]
+    return fields_threes_with([(places[7 * i % len(places)], 3069) for i in range(ROWS)])
+
+
+def fields_threes_lengths():
+    """Values of eleven lengths by turns, at four places of one slot."""
+    return fields_threes_with([(3 + 1023 * (i // 11 % 4), 294 - 3 * (i % 11)) for i in range(ROWS)])
+
+
+def fields_halves():
+    """Equal fields of 9,000 bytes at many places of both halves of a pool, which are the same and each repeat themselves at another
+    step."""
+    half = "\u00e9a".encode() + filled("a\u00e9", POOL // 2 - 4)
+    inside = range(3, len(half) - 9000, 3)
+    table = fields(half + half, [(inside[turn // 2 % len(inside)] + len(half) * (turn % 2), 9000) for turn in turns()])
+    starts = [i + k for k in (0, len(half)) for i in inside if (i + k) % BLOCK < 8]
+    values = [3, 3 + len(half)] + [starts[5 * i % len(starts)] for i in range(2, ROWS)]
+    table.rows = [(*row[:8], value, 9000) for row, value in zip(table.rows, values)]
+    return table
+
+
 def fields_two():
     """Fields of 16,384 bytes and of one less, each in many places."""
     return fields(b"a" * POOL, [(i // 2 * 7 % 16000, POOL // 2 - i % 2) for i in range(4 * ROWS)])
@@ -935,8 +970,8 @@ NAMES_AND_VALUES = (alike_3072, alike_300, alike_192, alike_short, lengths_mixed
                     values_ef_bf, values_three, values_four, values_attributes, values_declared, spoiled_ascii, spoiled_ef,
                     spoiled_quotes, spoiled_quotes_ef, spoiled_between, spoiled_names, spoiled_last, quotes_all, quotes_small,
                     quotes_letters, quotes_seldom, lines_in_tags, lines_in_texts, nothing_escaped, names_long_text,
-                    fields_everywhere, fields_turns, fields_threes, fields_threes_named, fields_two, fields_eights, fields_one_hash,
-                    fields_one_bucket, fields_late,
+                    fields_everywhere, fields_turns, fields_threes, fields_threes_named, fields_threes_slot, fields_threes_parts,
+                    fields_threes_lengths, fields_halves, fields_two, fields_eights, fields_one_hash, fields_one_bucket, fields_late,
                     values_everywhere, values_everywhere_two, values_turns, values_groups, values_lengths, values_alike,
                     values_one_hash, values_beyond, fields_small, values_small)
 IN_ROWS = (pairs, pairs_one_bucket, old_pairs_one_bucket, old_equal_long, by_turns_far, by_turns_far_undeclared, by_turns_far_each, by_turns_far_deep, by_turns_bare,

@@ -1,5 +1,5 @@
--- Nothing but the places seen and how hard the names are depends on the words between the counts and the names; and zeros are
--- the index of no names.
+-- Nothing but the places seen, how the pool repeats itself and how hard the names are depends on the words between the counts and
+-- the names; and zeros are the index of no names.
 -- Assumes nothing.
 use Prim.Native.Nat.{ℕ, suc, _+_, _*_, _%_, _≤_, _<_}
 use mathlib.Core.Path.{_≡_, refl, sym, ap, _∙_}
@@ -13,7 +13,7 @@ use Rattle.rules.specs.Table.{part}
 use Rattle.rules.proofs.Lists.{by-cases, true-not-false}
 use Rattle.chains.proofs.Laws.{latest-same, chain-none, chain-same}
 use Rattle.packing.specs.Packing.{joined}
-use Rattle.packed_index.specs.Index.{BUCKETS, COUNT, USED, HARD, PLACES, SLOTS, ENTRIES, WIDTH, OFFSET, LENGTH, HASH, LINK, MARK, countOf, word, seen, nameAt, isNamed, bucketAt, headAt, linkAt, Chains, Marks, Index, remembered}
+use Rattle.packed_index.specs.Index.{BUCKETS, COUNT, USED, HARD, NEXT, START, SIZE, STEP, PLACES, SLOTS, ENTRIES, WIDTH, OFFSET, LENGTH, HASH, LINK, MARK, countOf, word, seen, nameAt, isNamed, bucketAt, headAt, linkAt, Chains, Marks, Repeats, Repeating, Index, remembered, stretched}
 
 module _ (e e′ : List ℕ) (long : length e′ ≡ length e) (same : (i : ℕ) → (HARD ≤ i → i < ENTRIES → ⊥) → getD e′ i 0 ≡ getD e i 0) where
   count-same : countOf e′ ≡ countOf e
@@ -39,23 +39,63 @@ module _ (e e′ : List ℕ) (long : length e′ ≡ length e) (same : (i : ℕ)
         chained = rw count-same (record { heads = λ b h. same b (λ x y. omega arith) ∙ c .heads b h; links = c .links });
       }
 
-  pub index-elsewhere : {hashed : List ℕ → ℕ} {pool : List ℕ} {names : List (List ℕ)} → Index hashed e pool names → ((s : ℕ) → s < SLOTS → Marks names (seen e′ s 2) (part pool (seen e′ s 0) (seen e′ s 1))) → Index hashed e′ pool names
-  index-elsewhere {pool = pool} g places =
+  pub index-elsewhere : {hashed : List ℕ → ℕ} {pool : List ℕ} {names : List (List ℕ)} → Index hashed e pool names → Repeating e′ pool → ((s : ℕ) → s < SLOTS → Marks names (seen e′ s 2) (part pool (seen e′ s 0) (seen e′ s 1))) → Index hashed e′ pool names
+  index-elsewhere {pool = pool} g repeating places =
       record {
         chains = chains-elsewhere (g .chains);
         used = same USED (λ x y. omega arith) ∙ g .used;
         marks = rw count-same (λ m h. rw (word-same (suc m) MARK, name-same pool (suc m)) (g .marks m h));
         covered = λ bytes q.
             rw (count-same, latest-same (isNamed e pool bytes) (isNamed e′ pool bytes) (countOf e) (λ m h. rw (name-same pool (suc m)) refl)) (g .covered bytes q);
+        repeating = repeating;
         places = places;
       }
 
--- It is written how hard the names are.
-pub index-counted : {hashed : List ℕ → ℕ} {e pool : List ℕ} {names : List (List ℕ)} (x : ℕ) → Index hashed e pool names → Index hashed (set e HARD x) pool names
-index-counted {e = e} x g =
-    let other : (i : ℕ) → (i ≡ HARD → ⊥) → getD (set e HARD x) i 0 ≡ getD e i 0 = λ i d. getD-set-other e HARD i x 0 d in
-    index-elsewhere e (set e HARD x) (length-set e HARD x) (λ i h. other i (λ z. h (omega arith) (omega arith))) g
-    (λ s h. rw (other (PLACES + 3 * s + 0) (λ z. omega arith), other (PLACES + 3 * s + 1) (λ z. omega arith), other (PLACES + 3 * s + 2) (λ z. omega arith)) (g .places s h))
+-- A word is written on which nothing depends: how hard the names are, or which place makes room for the next.
+module _ (e : List ℕ) (j x : ℕ) (low : HARD ≤ j) (high : j ≤ NEXT) where
+  other : (i : ℕ) → (i ≡ j → ⊥) → getD (set e j x) i 0 ≡ getD e i 0
+  other i d = getD-set-other e j i x 0 d
+
+  pub chains-noted : {hashed : List ℕ → ℕ} {pool : List ℕ} → Chains hashed e pool → Chains hashed (set e j x) pool
+  chains-noted g = chains-elsewhere e (set e j x) (length-set e j x) (λ i h. other i (λ z. h (omega arith) (omega arith))) g
+
+  pub index-noted : {hashed : List ℕ → ℕ} {pool : List ℕ} {names : List (List ℕ)} → Index hashed e pool names → Index hashed (set e j x) pool names
+  index-noted g =
+      index-elsewhere e (set e j x) (length-set e j x) (λ i h. other i (λ z. h (omega arith) (omega arith))) g
+      (rw (other START (λ z. omega arith), other SIZE (λ z. omega arith), other STEP (λ z. omega arith)) (g .repeating))
+      (λ s h. rw (other (PLACES + 3 * s + 0) (λ z. omega arith), other (PLACES + 3 * s + 1) (λ z. omega arith), other (PLACES + 3 * s + 2) (λ z. omega arith)) (g .places s h))
+
+-- Another stretch of the pool is known.
+module _ (e : List ℕ) (start size step : ℕ) (long : ENTRIES ≤ length e) where
+  pub length-stretched : length (stretched e start size step) ≡ length e
+  unfolding stretched
+  length-stretched = simp length-set
+
+  pub stretched-kept : (i : ℕ) → (START ≤ i → i ≤ STEP → ⊥) → getD (stretched e start size step) i 0 ≡ getD e i 0
+  unfolding stretched
+  stretched-kept i h =
+      let a : i ≡ START → ⊥ = λ z. h (omega arith) (omega arith) in
+      let b : i ≡ SIZE → ⊥ = λ z. h (omega arith) (omega arith) in
+      let c : i ≡ STEP → ⊥ = λ z. h (omega arith) (omega arith) in
+      simp (getD-set-other, a, b, c)
+
+  own-stretch : (getD (stretched e start size step) START 0 ≡ start) × (getD (stretched e start size step) SIZE 0 ≡ size) × (getD (stretched e start size step) STEP 0 ≡ step)
+  unfolding stretched
+  own-stretch =
+      let a = set e START start in
+      let b = set a SIZE size in
+      let l₁ : SIZE < length a = rw length-set (omega arith) in
+      let l₂ : STEP < length b = rw (length-set, length-set) (omega arith) in (
+        getD-set-other b STEP START step 0 (λ z. omega arith) ∙ getD-set-other a SIZE START size 0 (λ z. omega arith) ∙ getD-set-same e START start 0 (omega arith),
+        getD-set-other b STEP SIZE step 0 (λ z. omega arith) ∙ getD-set-same a SIZE size 0 l₁,
+        getD-set-same b STEP step 0 l₂,
+      )
+
+  pub index-stretched : {hashed : List ℕ → ℕ} {pool : List ℕ} {names : List (List ℕ)} → Index hashed e pool names → Repeats pool start size step → Index hashed (stretched e start size step) pool names
+  index-stretched g is =
+      index-elsewhere e (stretched e start size step) length-stretched (λ i h. stretched-kept i (λ x y. h (omega arith) (omega arith))) g
+      (rw (own-stretch .0, own-stretch .1, own-stretch .2) is)
+      (λ s h. rw (stretched-kept (PLACES + 3 * s + 0) (λ x y. omega arith), stretched-kept (PLACES + 3 * s + 1) (λ x y. omega arith), stretched-kept (PLACES + 3 * s + 2) (λ x y. omega arith)) (g .places s h))
 
 -- A place and its mark are remembered.
 module _ (e : List ℕ) (s offset size mark : ℕ) (low : s < SLOTS) (long : ENTRIES ≤ length e) where
@@ -82,6 +122,11 @@ module _ (e : List ℕ) (s offset size mark : ℕ) (low : s < SLOTS) (long : ENT
   pub index-remembered : {hashed : List ℕ → ℕ} {pool : List ℕ} {names : List (List ℕ)} → Index hashed e pool names → Marks names mark (part pool offset size) → Index hashed (remembered e s offset size mark) pool names
   index-remembered g is =
       index-elsewhere e (remembered e s offset size mark) length-remembered (λ i h. other-words i (λ z. h (omega arith) (omega arith)) (λ z. h (omega arith) (omega arith)) (λ z. h (omega arith) (omega arith))) g
+      (rw (
+        other-words START (λ z. omega arith) (λ z. omega arith) (λ z. omega arith),
+        other-words SIZE (λ z. omega arith) (λ z. omega arith) (λ z. omega arith),
+        other-words STEP (λ z. omega arith) (λ z. omega arith) (λ z. omega arith),
+      ) (g .repeating))
       (λ q h.
       by-cases (eqb q s)
       (λ t. rw (eqb-true q s t, own-words .0, own-words .1, own-words .2) is)
@@ -107,8 +152,6 @@ index-none {e = e} room zero =
       used = zero USED;
       marks = λ m h. absurd (omega arith);
       covered = λ bytes q. absurd (true-not-false q refl);
+      repeating = λ i h. let z = zero SIZE in absurd (omega arith);
       places = λ s h i. let z = zero (PLACES + 3 * s + 2) in absurd (omega arith);
     }
-
-pub chains-counted : {hashed : List ℕ → ℕ} {e pool : List ℕ} (x : ℕ) → Chains hashed e pool → Chains hashed (set e HARD x) pool
-chains-counted {e = e} x g = chains-elsewhere e (set e HARD x) (length-set e HARD x) (λ i h. getD-set-other e HARD i x 0 (λ z. h (omega arith) (omega arith))) g

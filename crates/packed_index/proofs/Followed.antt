@@ -15,7 +15,7 @@ use Rattle.chains.specs.Chains.{latest, Chained}
 use Rattle.chains.proofs.Laws.{latest-same, chain-same, chain-next}
 use Rattle.packing.specs.Packing.{enteredAll, joined}
 use Rattle.packing.proofs.Growing.{joined-behind, start-new, start-kept, behind}
-use Rattle.packed_index.specs.Index.{BUCKETS, ENTRIES, WIDTH, OFFSET, LENGTH, HASH, LINK, MARK, countOf, word, seen, nameAt, isNamed, bucketAt, headAt, linkAt, Entry, Chains, markOf, Marks, Index, followed}
+use Rattle.packed_index.specs.Index.{BUCKETS, START, SIZE, STEP, PLACES, ENTRIES, WIDTH, OFFSET, LENGTH, HASH, LINK, MARK, countOf, word, seen, nameAt, isNamed, bucketAt, headAt, linkAt, Entry, Chains, markOf, Marks, Index, followed}
 use Rattle.packed_index.proofs.Following.{length-followed, count-followed, used-followed, words-followed, followed-kept, heads-followed}
 
 -- The mark of a name stays when others are entered behind it.
@@ -138,10 +138,15 @@ module _ (e pool : List ℕ) (offset size hash : ℕ) (room : ENTRIES + WIDTH * 
             used = used-followed e offset size hash room ∙ rw (g .used, joined-behind names (part pool offset size), length-append) (ap (λ (k : ℕ). length (joined names) + k) sized);
             marks = rw last marks-followed;
             covered = rw (last, ← s) covered-followed;
+            repeating =
+                let a = followed-kept e offset size hash room START (omega arith) (omega arith) in
+                let b = followed-kept e offset size hash room SIZE (omega arith) (omega arith) in
+                let c = followed-kept e offset size hash room STEP (omega arith) (omega arith) in
+                rw (a, b, c) (g .repeating);
             places = λ i j positive.
-                let k₀ = followed-kept e offset size hash room (1027 + 3 * i + 0) (omega arith) (omega arith) in
-                let k₁ = followed-kept e offset size hash room (1027 + 3 * i + 1) (omega arith) (omega arith) in
-                let k₂ = followed-kept e offset size hash room (1027 + 3 * i + 2) (omega arith) (omega arith) in
+                let k₀ = followed-kept e offset size hash room (PLACES + 3 * i + 0) (omega arith) (omega arith) in
+                let k₁ = followed-kept e offset size hash room (PLACES + 3 * i + 1) (omega arith) (omega arith) in
+                let k₂ = followed-kept e offset size hash room (PLACES + 3 * i + 2) (omega arith) (omega arith) in
                 let is = g .places i j (rw k₂ at positive) in
                 rw (k₀, k₁, k₂) (is ∙ sym (mark-behind names (part pool offset size ∷ []) (part pool (seen e i 0) (seen e i 1)) (rw is at (rw k₂ at positive))));
           }

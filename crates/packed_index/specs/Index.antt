@@ -1,5 +1,6 @@
 -- The index of the packed names, in one list of words: the heads of the chains, how many names there are, how many bytes they have,
--- how hard they are for the plain hash, the places seen, and five words for each name. Names are counted from 1.
+-- how hard they are for the plain hash, a stretch of the pool that repeats itself, the places seen, and five words for each name.
+-- Names are counted from 1.
 use Prim.Native.Nat.{ℕ, suc, _+_, _*_, _%_, _≤_, _<_}
 use mathlib.Core.Path.{_≡_}
 use mathlib.Core.Bool.{Bool, true, cond}
@@ -22,16 +23,30 @@ USED = 1025
 abbrev pub HARD : ℕ
 HARD = 1026
 
+-- Which of the places seen makes room for the next long one.
+abbrev pub NEXT : ℕ
+NEXT = 1027
+
+-- A stretch of the pool: where it starts, how many bytes from there on stand once more, and how many bytes further on they do.
+abbrev pub START : ℕ
+START = 1028
+
+abbrev pub SIZE : ℕ
+SIZE = 1029
+
+abbrev pub STEP : ℕ
+STEP = 1030
+
 -- The places seen: the offset, the length and the mark of each.
 abbrev pub PLACES : ℕ
-PLACES = 1027
+PLACES = 1031
 
 abbrev pub SLOTS : ℕ
 SLOTS = 1024
 
 -- Where the words of number 0 begin, and how many words a name has.
 abbrev pub ENTRIES : ℕ
-ENTRIES = 4099
+ENTRIES = 4103
 
 abbrev pub WIDTH : ℕ
 WIDTH = 5
@@ -98,12 +113,21 @@ markOf names bytes = cond (anyOf (sameBytes bytes) names) (startOf names bytes +
 abbrev pub Marks : List (List ℕ) → ℕ → List ℕ → Type 0
 Marks names mark bytes = 0 < mark → mark ≡ markOf names bytes
 
+-- So many bytes from a start on stand once more, a step further on.
+abbrev pub Repeats : List ℕ → ℕ → ℕ → ℕ → Type 0
+Repeats pool start size step = (i : ℕ) → i < size → getD pool (start + i) 0 ≡ getD pool (start + step + i) 0
+
+-- The pool repeats itself as the index tells.
+abbrev pub Repeating : List ℕ → List ℕ → Type 0
+Repeating index pool = Repeats pool (getD index START 0) (getD index SIZE 0) (getD index STEP 0)
+
 -- The index is that of these names.
 pub record Index (hashed : List ℕ → ℕ) (index pool : List ℕ) (names : List (List ℕ)) : Type 0 where
   pub chains : Chains hashed index pool
   pub used : getD index USED 0 ≡ length (joined names)
   pub marks : (m : ℕ) → m < countOf index → (0 < word index (suc m) MARK) × (word index (suc m) MARK ≡ markOf names (nameAt index pool (suc m)))
   pub covered : (bytes : List ℕ) → anyOf (sameBytes bytes) names ≡ true → 0 < latest (isNamed index pool bytes) (countOf index)
+  pub repeating : Repeating index pool
   pub places : (s : ℕ) → s < SLOTS → Marks names (seen index s 2) (part pool (seen index s 0) (seen index s 1))
 
 -- There is room for one name more.
@@ -124,3 +148,7 @@ followed index offset size hash =
 -- the index with a place and its mark in slot s
 unfoldable pub remembered : List ℕ → ℕ → ℕ → ℕ → ℕ → List ℕ
 remembered index s offset size mark = set (set (set index (PLACES + 3 * s + 0) offset) (PLACES + 3 * s + 1) size) (PLACES + 3 * s + 2) mark
+
+-- the index with another stretch of the pool
+unfoldable pub stretched : List ℕ → ℕ → ℕ → ℕ → List ℕ
+stretched index start size step = set (set (set index START start) SIZE size) STEP step

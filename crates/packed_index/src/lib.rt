@@ -1,27 +1,36 @@
 // The names of the packed pool, found along the chains of their hashes, and one more behind them. One lent array holds the heads of
-// the chains, how many names there are, how many bytes they have, how hard they are for the plain hash, the places seen, and five
-// words for each name, counted from 1. Zeros are the index of no names.
+// the chains, how many names there are, how many bytes they have, how hard they are for the plain hash, a stretch of the pool that
+// repeats itself, the places seen, and five words for each name, counted from 1. Zeros are the index of no names.
 ghost use mathlib.Core.Path.{_≡_};
 ghost use mathlib.Core.List.{List};
 ghost use Prim.Native.Nat.{ℕ, _+_, _*_, _≤_, _<_};
 ghost use lib.ListN.{length, getD};
 ghost use Rattle.chains.specs.Chains.{latest};
-ghost use Rattle.packed_index.specs.Index.{USED, ENTRIES, WIDTH, countOf, word, nameAt, isNamed, Chains, HasRoom, followed};
+ghost use Rattle.packed_index.specs.Index.{USED, SLOTS, ENTRIES, WIDTH, countOf, word, seen, nameAt, isNamed, Chains, HasRoom, followed};
 use rules::NameId;
 use rules::Offset;
 use rules::Place;
 
 const BUCKETS: usize = 1024;
 
-// Behind the heads, how many names there are and how many bytes they have; how hard they are; the places seen, three words each;
-// and the words of number 0, which is no name.
+// Behind the heads, how many names there are and how many bytes they have; how hard they are; which of the places seen makes room
+// for the next long one; of a stretch of the pool where it starts, how many bytes from there on stand once more, and how many bytes
+// further on they do; the places seen, three words each; and the words of number 0, which is no name.
 const COUNT: usize = BUCKETS;
 
 pub const USED: usize = COUNT + 1;
 
 pub const HARD: usize = USED + 1;
 
-pub const PLACES: usize = HARD + 1;
+pub const NEXT: usize = HARD + 1;
+
+pub const START: usize = NEXT + 1;
+
+pub const SIZE: usize = START + 1;
+
+pub const STEP: usize = SIZE + 1;
+
+pub const PLACES: usize = STEP + 1;
 
 pub const SLOTS: usize = 1024;
 
@@ -56,6 +65,14 @@ pub fn word(index: &[u16], number: NameId, k: usize) -> u16
     ensures { λ r. ⌜ r ≡ word (now (index .entry)) (number .0) k ⌝ }
 {
     index[ENTRIES + WIDTH * number.0 as usize + k]
+}
+
+// A word of a place seen.
+pub fn seen(index: &[u16], slot: usize, k: usize) -> u16
+    requires { ⌜ (slot < SLOTS) × (k < 3) × (ENTRIES ≤ length (now index)) ⌝ }
+    ensures { λ r. ⌜ r ≡ seen (now (index .entry)) slot k ⌝ }
+{
+    index[PLACES + 3 * slot + k]
 }
 
 // The number of a name with this hash.

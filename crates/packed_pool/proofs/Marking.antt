@@ -19,12 +19,13 @@ use Rattle.buffers.specs.Writes.{written}
 use Rattle.buffers.proofs.Meaning.{appended}
 use Rattle.packing.specs.Packing.{entered, joined}
 use Rattle.packing.proofs.Growing.{joined-behind, enters-known, enters-new}
-use Rattle.packed_index.specs.Index.{USED, HARD, PLACES, SLOTS, ENTRIES, WIDTH, MARK, countOf, word, seen, isNamed, Chains, markOf, Marks, Index, HasRoom, followed, remembered}
+use Rattle.packed_index.specs.Index.{USED, HARD, NEXT, START, STEP, PLACES, SLOTS, ENTRIES, WIDTH, MARK, countOf, word, seen, isNamed, Chains, markOf, Marks, Index, HasRoom, followed, remembered, stretched}
 use Rattle.packed_index.proofs.Following.{count-followed}
 use Rattle.packed_index.proofs.Followed.{mark-new, index-followed}
 use Rattle.packed_index.proofs.Finding.{found, not-found, mark-held}
-use Rattle.packed_index.proofs.Elsewhere.{chains-counted, index-counted, other-words, index-remembered}
-use Rattle.packed_pool.specs.Marking.{isHard, Stands, Marked, Added}
+use Rattle.packed_index.proofs.Elsewhere.{chains-noted, index-noted, stretched-kept, index-stretched, other-words, index-remembered}
+use Rattle.repeats.specs.Stretch.{First, Learned}
+use Rattle.packed_pool.specs.Marking.{isHard, Stands, Marked, Noted, Added}
 
 -- The bytes from an offset up to the end of a place are those of the place.
 pub placed : (pool : List ℕ) (offset size : ℕ) → between pool offset (offset + size) ≡ part pool offset size
@@ -101,21 +102,73 @@ module _
         past = λ z easy. let p = a .past z .1 in rw (grown, long) p;
       }
 
+-- More is known of places: of none, of one that is remembered, of how the pool repeats itself.
+module _ {pool : List ℕ} (offset size : ℕ) {mark : ℕ} where
+  pub both-noted : {e e′ e″ : List ℕ} → Noted pool e e′ offset size mark → Noted pool e′ e″ offset size mark → Noted pool e e″ offset size mark
+  both-noted a b =
+      record {
+        count = b .count ∙ a .count;
+        hard = b .hard ∙ a .hard;
+        right = λ hashed names g is. b .right hashed names (a .right hashed names g is) is;
+      }
+
+  pub next-noted : (e : List ℕ) (x : ℕ) → Noted pool e (set e NEXT x) offset size mark
+  next-noted e x =
+      record {
+        count = getD-set-other e NEXT 1024 x 0 (λ z. omega arith);
+        hard = getD-set-other e NEXT HARD x 0 (λ z. omega arith);
+        right = λ hashed names g is. index-noted e NEXT x (omega arith) (omega arith) g;
+      }
+
+  pub remembered-noted : (slot : ℕ) {e e′ : List ℕ} → slot < SLOTS → ENTRIES ≤ length e → e′ ≡ remembered e slot offset size mark → Noted pool e e′ offset size mark
+  remembered-noted slot {e} low room next =
+      let same : (i : ℕ) → i < PLACES → getD (remembered e slot offset size mark) i 0 ≡ getD e i 0 = λ i h. other-words e slot offset size mark low room i (λ z. omega arith) (λ z. omega arith) (λ z. omega arith) in
+      rw next
+      (record {
+        count = same 1024 (omega arith);
+        hard = same HARD (omega arith);
+        right = λ hashed names g is. index-remembered e slot offset size mark low room g is;
+      })
+
+  pub learned-noted : {e e′ : List ℕ} → ENTRIES ≤ length e → Learned pool e e′ → Noted pool e e′ offset size mark
+  learned-noted {e} room l =
+      let same : (i : ℕ) → (START ≤ i → i ≤ STEP → ⊥) → getD (stretched e (l .0) (l .1) (l .2)) i 0 ≡ getD e i 0 = stretched-kept e (l .0) (l .1) (l .2) room in
+      rw (l .3)
+      (record {
+        count = same 1024 (λ a b. omega arith);
+        hard = same HARD (λ a b. omega arith);
+        right = λ hashed names g is. index-stretched e (l .0) (l .1) (l .2) room g (l .4 (g .repeating));
+      })
+
+  -- The mark is right with it too.
+  pub noted-marked :
+      {hashed : List ℕ → ℕ} {e e′ e″ out out′ : List ℕ} {names : List (List ℕ)} {limit : ℕ} {easy : Bool} → Noted pool e′ e″ offset size mark
+      → Marked hashed pool e e′ out out′ limit easy mark names (part pool offset size) → Marked hashed pool e e″ out out′ limit easy mark names (part pool offset size)
+  noted-marked {hashed} {names = names} {easy = easy} n m =
+      let few = m .few in
+      let same = n .count in
+      record {
+        few = omega arith;
+        right = λ h. n .right hashed (entered names (part pool offset size)) (m .right h) (m .is);
+        is = m .is;
+        short = m .short;
+        stands = m .stands;
+        past = λ z q. m .past z (sym (ap (λ (k : ℕ). easy && ltb 512 k) (n .hard)) ∙ q);
+      }
+
 -- The place and its mark are remembered, which changes no other word.
 pub remembered-marked :
     {hashed : List ℕ → ℕ} {pool e e′ e″ out out′ : List ℕ} {names : List (List ℕ)} {limit : ℕ} {easy : Bool} (slot offset size : ℕ) {mark : ℕ} → slot < SLOTS → ENTRIES ≤ length e′ → e″ ≡ remembered e′ slot offset size mark
     → Marked hashed pool e e′ out out′ limit easy mark names (part pool offset size) → Marked hashed pool e e″ out out′ limit easy mark names (part pool offset size)
-remembered-marked {e′ = e′} {easy = easy} slot offset size {mark} low room is m =
-    let same : (i : ℕ) → i < PLACES → getD (remembered e′ slot offset size mark) i 0 ≡ getD e′ i 0 = λ i h. other-words e′ slot offset size mark low room i (λ z. omega arith) (λ z. omega arith) (λ z. omega arith) in
-    rw is
-    (record {
-      few = rw (same 1024 (omega arith)) (m .few);
-      right = λ h. index-remembered e′ slot offset size mark low room (m .right h) (m .is);
-      is = m .is;
-      short = m .short;
-      stands = m .stands;
-      past = λ z q. m .past z (sym (ap (λ (k : ℕ). easy && ltb 512 k) (same HARD (omega arith))) ∙ q);
-    })
+remembered-marked slot offset size low room is m = noted-marked offset size (remembered-noted offset size slot low room is) m
+
+-- The mark of a place that stands for another.
+pub first-marked :
+    {hashed : List ℕ → ℕ} {pool e e′ out out′ : List ℕ} {names : List (List ℕ)} {limit mark : ℕ} {easy : Bool} (offset size first size′ : ℕ) → First e offset size first size′ → offset + size ≤ length pool → Index hashed e pool names
+    → Marked hashed pool e e′ out out′ limit easy mark names (part pool first size′) → Marked hashed pool e e′ out out′ limit easy mark names (part pool offset size)
+first-marked {pool = pool} offset size first size′ f within g m =
+    let same : part pool first size′ ≡ part pool offset size = ap (part pool first) (f .0) ∙ f .2 pool (g .repeating) within in
+    rw same at m
 
 -- A place that is remembered has its mark.
 pub seen-marks :
@@ -149,10 +202,10 @@ module _ (e : List ℕ) {e₁ : List ℕ} (x : ℕ) (next : e₁ ≡ set e HARD 
   counted-room r = (rw (counted-same, next, length-set) (r .0), rw counted-same (r .1))
 
   pub counted-chains : {hashed : List ℕ → ℕ} {pool : List ℕ} → Chains hashed e pool → Chains hashed e₁ pool
-  counted-chains g = rw next (chains-counted x g)
+  counted-chains g = rw next (chains-noted e HARD x (omega arith) (omega arith) g)
 
   pub counted-index : {hashed : List ℕ → ℕ} {pool : List ℕ} {names : List (List ℕ)} → Index hashed e pool names → Index hashed e₁ pool names
-  counted-index g = rw next (index-counted x g)
+  counted-index g = rw next (index-noted e HARD x (omega arith) (omega arith) g)
 
   -- They are hard, and that matters.
   pub stopped : {hashed : List ℕ → ℕ} {pool out bytes : List ℕ} {limit : ℕ} {easy : Bool} {names : List (List ℕ)} → ENTRIES ≤ length e → (easy && ltb 512 x) ≡ true → Marked hashed pool e e₁ out out limit easy 0 names bytes

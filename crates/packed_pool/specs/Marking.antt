@@ -6,7 +6,7 @@ use mathlib.Core.List.{List}
 use lib.Dec.{ltb}
 use lib.ListN.{length, getD, take}
 use lib.Seq.{paste}
-use Rattle.rules.specs.Table.{MOST-BYTES}
+use Rattle.rules.specs.Table.{MOST-BYTES, part}
 use Rattle.buffers.specs.Writes.{written}
 use Rattle.packing.specs.Packing.{entered, joined}
 use Rattle.packed_index.specs.Index.{USED, HARD, countOf, Marks, Index, followed}
@@ -32,6 +32,12 @@ pub record Marked (hashed : List ℕ → ℕ) (pool index index′ out out′ : 
   pub short : 0 < mark → length (joined names) ≤ limit → length (joined (entered names bytes)) ≤ limit
   pub stands : 0 < mark → Stands out names → Stands out′ (entered names bytes)
   pub past : mark ≡ 0 → (easy && isHard index′) ≡ false → limit < length (joined (entered names bytes))
+
+-- More is known of places, one of which has this mark, and the same of names.
+pub record Noted (pool index index′ : List ℕ) (offset size mark : ℕ) : Type 0 where
+  pub count : countOf index′ ≡ countOf index
+  pub hard : getD index′ HARD 0 ≡ getD index HARD 0
+  pub right : (hashed : List ℕ → ℕ) (names : List (List ℕ)) → Index hashed index pool names → Marks names mark (part pool offset size) → Index hashed index′ pool names
 
 -- A new name of these bytes has been entered behind the others, or the mark is 0 and it did not fit.
 pub record Added (index index′ out out′ : List ℕ) (offset size hash : ℕ) (bytes : List ℕ) (limit mark : ℕ) : Type 0 where

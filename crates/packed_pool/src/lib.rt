@@ -10,11 +10,13 @@ ghost use Rattle.rules.specs.Table.{MOST-BYTES, part};
 ghost use Rattle.buffers.specs.Writes.{written};
 ghost use Rattle.tables.specs.Tables.{hashIn, Tables};
 ghost use Rattle.packed_index.specs.Index.{USED, HARD, SLOTS, ENTRIES, Chains, Marks, Index, HasRoom, seen, remembered};
-ghost use Rattle.packed_pool.specs.Marking.{Within, isHard, Marked, Added, Begun};
+ghost use Rattle.packed_pool.specs.Marking.{Within, isHard, Marked, Noted, Added, Begun};
 use packed_index::HARD;
+use packed_index::NEXT;
 use packed_index::PLACES;
 use packed_index::SLOTS;
 use packed_index::USED;
+use repeats::RECENT;
 use rules::Place;
 
 // Names are hard for the plain hash where their long ones, of more than LONG bytes, have more than MUCH blocks of LONG bytes that
@@ -51,7 +53,7 @@ pub fn mark_value(
     mark
 }
 
-// The same of a long value, which is counted. Long names need not be: the check has counted them.
+// The same of a long value, which is counted until the names are hard. Long names need not be: the check has counted them.
 fn mark_long(
     tables: &[u16],
     pool: &[u8],
@@ -65,12 +67,62 @@ fn mark_long(
     requires { ⌜ Within (now pool) (place .offset .0) (place .length) × (limit ≤ MOST-BYTES) ⌝ }
     ensures { λ r. ⌜ ((names : List (List ℕ)) → Index (hashIn (now (tables .entry))) (now (index .entry)) (now (pool .entry)) names → Marked (hashIn (now (tables .entry))) (now (pool .entry)) (now (index .entry)) (now (index .exit)) (now (out .entry)) (now (out .exit)) limit easy r names (part (now (pool .entry)) (place .offset .0) (place .length))) ⌝ }
 {
+    if !easy {
+        return mark_hard(tables, pool, place, index, out, limit, easy);
+    }
     let hard = count(index, place.length);
-    if easy & (hard > MUCH) {
+    if hard > MUCH {
         return 0;
     }
     let mark = mark_name(tables, pool, place, index, out, limit, easy);
     remember(index, place, mark);
+    mark
+}
+
+// The same where the names are hard. In a stretch of the pool that repeats itself the first place with the same bytes stands for it.
+fn mark_hard(
+    tables: &[u16],
+    pool: &[u8],
+    place: Place,
+    index: &mut [u16],
+    out: &mut [u8],
+    limit: usize,
+    easy: bool,
+) -> u16
+    requires { ⌜ Tables (now tables) (now pool) × Chains (hashIn (now tables)) (now index) (now pool) × HasRoom (now index) ⌝ }
+    requires { ⌜ Within (now pool) (place .offset .0) (place .length) × (limit ≤ MOST-BYTES) ⌝ }
+    ensures { λ r. ⌜ ((names : List (List ℕ)) → Index (hashIn (now (tables .entry))) (now (index .entry)) (now (pool .entry)) names → Marked (hashIn (now (tables .entry))) (now (pool .entry)) (now (index .entry)) (now (index .exit)) (now (out .entry)) (now (out .exit)) limit easy r names (part (now (pool .entry)) (place .offset .0) (place .length))) ⌝ }
+{
+    if !repeats::holds(index, place) {
+        return mark_first(tables, pool, place, index, out, limit, easy);
+    }
+    let first = repeats::first_place(index, place);
+    let mark = mark_first(tables, pool, first, index, out, limit, easy);
+    remember(index, place, mark);
+    mark
+}
+
+// The same of such a place, by the places of long values that were seen last. Two places call it, so that it is not taken into the
+// rows' loop.
+fn mark_first(
+    tables: &[u16],
+    pool: &[u8],
+    place: Place,
+    index: &mut [u16],
+    out: &mut [u8],
+    limit: usize,
+    easy: bool,
+) -> u16
+    requires { ⌜ Tables (now tables) (now pool) × Chains (hashIn (now tables)) (now index) (now pool) × HasRoom (now index) ⌝ }
+    requires { ⌜ Within (now pool) (place .offset .0) (place .length) × (limit ≤ MOST-BYTES) ⌝ }
+    ensures { λ r. ⌜ ((names : List (List ℕ)) → Index (hashIn (now (tables .entry))) (now (index .entry)) (now (pool .entry)) names → Marked (hashIn (now (tables .entry))) (now (pool .entry)) (now (index .entry)) (now (index .exit)) (now (out .entry)) (now (out .exit)) limit easy r names (part (now (pool .entry)) (place .offset .0) (place .length))) ⌝ }
+{
+    let known = recall_recent(index, place);
+    if known > 0 {
+        return known;
+    }
+    let mark = mark_name(tables, pool, place, index, out, limit, easy);
+    note(index, pool, place, mark);
     mark
 }
 
@@ -222,7 +274,7 @@ fn recall(index: &[u16], place: Place) -> u16
 {
     let slot = slot_of(place);
     if is_seen(index, slot, place) {
-        return seen(index, slot, 2);
+        return packed_index::seen(index, slot, 2);
     }
     0
 }
@@ -232,15 +284,23 @@ fn is_seen(index: &[u16], slot: usize, place: Place) -> bool
     requires { ⌜ (slot < SLOTS) × (ENTRIES ≤ length (now index)) ⌝ }
     ensures { λ r. ⌜ r ≡ (eqb (seen (now (index .entry)) slot 0) (place .offset .0) && eqb (seen (now (index .entry)) slot 1) (place .length)) ⌝ }
 {
-    (seen(index, slot, 0) as u32 == place.offset.0) & (seen(index, slot, 1) as u32 == place.length)
+    (packed_index::seen(index, slot, 0) as u32 == place.offset.0)
+        & (packed_index::seen(index, slot, 1) as u32 == place.length)
 }
 
-// A word of a slot.
-fn seen(index: &[u16], slot: usize, k: usize) -> u16
-    requires { ⌜ (slot < SLOTS) × (k < 3) × (ENTRIES ≤ length (now index)) ⌝ }
-    ensures { λ r. ⌜ r ≡ seen (now (index .entry)) slot k ⌝ }
+// The mark beside a place, where it is among those of the long values seen last; else 0.
+fn recall_recent(index: &[u16], place: Place) -> u16
+    requires { ⌜ ENTRIES ≤ length (now index) ⌝ }
+    ensures { λ r. ⌜ ((hashed : List ℕ → ℕ) (pool : List ℕ) (names : List (List ℕ)) → Index hashed (now (index .entry)) pool names → Marks names r (part pool (place .offset .0) (place .length))) ⌝ }
 {
-    index[PLACES + 3 * slot + k]
+    let mut slot = 0;
+    while slot < RECENT {
+        if is_seen(index, slot, place) {
+            return packed_index::seen(index, slot, 2);
+        }
+        slot += 1;
+    }
+    0
 }
 
 // Remembers the mark of a place.
@@ -248,10 +308,29 @@ fn remember(index: &mut [u16], place: Place, mark: u16)
     requires { ⌜ (ENTRIES ≤ length (now index)) × (place .offset .0 < 65536) × (place .length < 65536) ⌝ }
     ensures { λ _. ⌜ ((slot : ℕ) × (slot < SLOTS) × (now (index .exit) ≡ remembered (now (index .entry)) slot (place .offset .0) (place .length) mark)) ⌝ }
 {
-    let slot = slot_of(place);
+    remember_in(index, slot_of(place), place, mark);
+}
+
+// Remembers it in a slot.
+fn remember_in(index: &mut [u16], slot: usize, place: Place, mark: u16)
+    requires { ⌜ (ENTRIES ≤ length (now index)) × (slot < SLOTS) × (place .offset .0 < 65536) × (place .length < 65536) ⌝ }
+    ensures { λ _. ⌜ now (index .exit) ≡ remembered (now (index .entry)) slot (place .offset .0) (place .length) mark ⌝ }
+{
     index[PLACES + 3 * slot + 0] = place.offset.0 as u16;
     index[PLACES + 3 * slot + 1] = place.length as u16;
     index[PLACES + 3 * slot + 2] = mark;
+}
+
+// Remembers the mark of a long value's place, and how the pool repeats itself, if the place tells. Nothing but time depends on it.
+fn note(index: &mut [u16], pool: &[u8], place: Place, mark: u16)
+    requires { ⌜ (ENTRIES ≤ length (now index)) × Within (now pool) (place .offset .0) (place .length) ⌝ }
+    ensures { λ _. ⌜ Noted (now (pool .entry)) (now (index .entry)) (now (index .exit)) (place .offset .0) (place .length) mark ⌝ }
+{
+    repeats::learn(index, pool, place, mark);
+    remember(index, place, mark);
+    let slot = wide(index[NEXT]) % RECENT;
+    remember_in(index, slot, place, mark);
+    index[NEXT] = slot as u16 + 1;
 }
 
 // The slot of a place, by its offset alone. The round that an offset is in counts too, so that names of four or eight bytes behind

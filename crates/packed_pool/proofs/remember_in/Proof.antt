@@ -1,15 +1,12 @@
--- `remember` meets its contract.
+-- `remember_in` meets its contract.
 -- Assumes nothing.
-use borrow.Author.Needs.{needs}
 use mathlib.Core.Path.{refl}
 use native.Mathlib.Omega.{arith}
 use lib.ListN.{length-set}
 use Rattle.packed_index.specs.Index.{remembered}
-use Rattle.packed_pool.proofs.remember.Statement.{statement}
-use Rattle.packed_pool.proofs.remember.Tie as tie
-
-slot-of-requires : tie.Need-slot-of-requires
-slot-of-requires c κs = search needs
+use borrow.Author.Needs.{needs}
+use Rattle.packed_pool.proofs.remember_in.Statement.{statement}
+use Rattle.packed_pool.proofs.remember_in.Tie as tie
 
 cast-index : tie.Need-cast-index
 cast-index c = search needs
@@ -63,17 +60,16 @@ slice-write-index-3 : tie.Need-slice-write-index-3
 slice-write-index-3 c = simp length-set (omega arith)
 
 same-length : tie.Need-same-length
-same-length c = simp length-set
+same-length c = search needs
 
 returns : tie.Need-returns
 unfolding remembered
-returns c = (c .before .before .slot-of .result, c .before .before .slot-of .ensures, refl)
+returns c = refl
 
-pub remember-spec : {M : Type 1} → statement M
-remember-spec =
+pub remember-in-spec : {M : Type 1} → statement M
+remember-in-spec =
     tie.close
     (tie.spec
-    slot-of-requires
     cast-index
     mul-index
     add-index

@@ -1,0 +1,2 @@
+-- Stretch: a stretch of the pool that repeats itself.
+pub mod Stretch
