@@ -548,6 +548,19 @@ def fields_turns():
     return fields(b"a" * POOL, [(2047 * (turn % 2), POOL - 2047) for turn in turns()])
 
 
+def fields_turns_wide():
+    """Equal fields of characters of one byte and of two, at two places of one slot in turn; values start where a block of them does."""
+    pool = filled("a\u00e9")
+    return fields(pool, [(3 + 1023 * (turn % 2), (len(pool) - 1026) // 3 * 3) for turn in turns()])
+
+
+def fields_turns_first():
+    """The same, but for the values, which stand at the pool's start."""
+    table = fields_turns_wide()
+    table.rows = [(*row[:8], 0, *row[9:]) for row in table.rows]
+    return table
+
+
 def turns():
     """Counts the names and the values of attributes with four fields each, both from 0 on."""
     return [i // 4 if i % 4 == 3 else 3 * (i // 4) + i % 4 for i in range(4 * ROWS)]
@@ -970,8 +983,9 @@ NAMES_AND_VALUES = (alike_3072, alike_300, alike_192, alike_short, lengths_mixed
                     values_ef_bf, values_three, values_four, values_attributes, values_declared, spoiled_ascii, spoiled_ef,
                     spoiled_quotes, spoiled_quotes_ef, spoiled_between, spoiled_names, spoiled_last, quotes_all, quotes_small,
                     quotes_letters, quotes_seldom, lines_in_tags, lines_in_texts, nothing_escaped, names_long_text,
-                    fields_everywhere, fields_turns, fields_threes, fields_threes_named, fields_threes_slot, fields_threes_parts,
-                    fields_threes_lengths, fields_halves, fields_two, fields_eights, fields_one_hash, fields_one_bucket, fields_late,
+                    fields_everywhere, fields_turns, fields_turns_wide, fields_turns_first, fields_threes, fields_threes_named,
+                    fields_threes_slot, fields_threes_parts, fields_threes_lengths, fields_halves, fields_two, fields_eights,
+                    fields_one_hash, fields_one_bucket, fields_late,
                     values_everywhere, values_everywhere_two, values_turns, values_groups, values_lengths, values_alike,
                     values_one_hash, values_beyond, fields_small, values_small)
 IN_ROWS = (pairs, pairs_one_bucket, old_pairs_one_bucket, old_equal_long, by_turns_far, by_turns_far_undeclared, by_turns_far_each, by_turns_far_deep, by_turns_bare,

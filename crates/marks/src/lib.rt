@@ -7,9 +7,9 @@ ghost use lib.ListN.{length};
 ghost use Rattle.rules.specs.Utf8.{isIn, tail, wellFormed};
 ghost use Rattle.marks.specs.Marks.{MOST, WORDS, between, Start, Mark, Marked};
 
-pub const BLOCK: usize = 256;
+pub const BLOCK: usize = 128;
 
-const BLOCKS: usize = 130;
+const BLOCKS: usize = 258;
 
 // The words of the marks of any pool: start and end of each.
 pub const WORDS: usize = 2 * BLOCKS;

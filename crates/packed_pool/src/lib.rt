@@ -8,6 +8,7 @@ ghost use lib.Dec.{eqb};
 ghost use lib.ListN.{length, getD, set};
 ghost use Rattle.rules.specs.Table.{MOST-BYTES, part};
 ghost use Rattle.buffers.specs.Writes.{written};
+ghost use Rattle.marks.specs.Marks.{between};
 ghost use Rattle.tables.specs.Tables.{hashIn, Tables};
 ghost use Rattle.packed_index.specs.Index.{USED, HARD, SLOTS, ENTRIES, Chains, Marks, Index, HasRoom, seen, remembered};
 ghost use Rattle.packed_pool.specs.Marking.{Within, isHard, Marked, Noted, Added, Begun};
@@ -144,7 +145,7 @@ pub fn mark_name(
     let start = place.offset.0 as usize;
     let end = start + place.length as usize;
     let name = &pool[start..end];
-    let hash = tables::hash_at(tables, pool, start, end);
+    let hash = hash_at(tables, pool, start, end);
     let found = packed_index::find(index, pool, name, hash);
     if found.number.0 > 0 {
         return packed_index::word(index, found.number, packed_index::MARK);
@@ -154,6 +155,19 @@ pub fn mark_name(
         return 0;
     }
     add_name(index, place, hash, name, out, limit)
+}
+
+// The hash of the name from start to end of the pool: that of `tables::hash_at`, which stays with the check alone, whose rows it
+// is quickest for.
+fn hash_at(tables: &[u16], pool: &[u8], start: usize, end: usize) -> u16
+    requires { ⌜ Tables (now tables) (now pool) ⌝ }
+    requires { ⌜ (start ≤ end) × (end ≤ length (now pool)) × (length (now pool) ≤ MOST-BYTES) ⌝ }
+    ensures { λ r. ⌜ r ≡ hashIn (now (tables .entry)) (between (now (pool .entry)) start end) ⌝ }
+{
+    if tables[tables::MADE] > 0 {
+        return tables::keyed_hash_at(tables, pool, start, end);
+    }
+    hash::hash_of(&pool[start..end])
 }
 
 // Enters a name that is new behind the others, if it fits; answers its mark, or 0.

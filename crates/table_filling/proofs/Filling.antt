@@ -28,7 +28,7 @@ module _ (t e : List ℕ) (a b : ℕ) (h : a ≤ b) (room : b ≤ length t) (siz
 
 -- What a part tells, it tells with more behind it.
 module _ (pool e rest : List ℕ) where
-  pub marked-with : length e ≡ 260 → Marked pool e → Marked pool (e ++ rest)
+  pub marked-with : length e ≡ 516 → Marked pool e → Marked pool (e ++ rest)
   marked-with s m k h = rw (List·getD-append e rest 0 (2 * k) (omega arith), List·getD-append e rest 0 (2 * k + 1) (omega arith)) (m k h)
 
   pub ended-with : (colons : Bool) → length e ≡ 130 → Ended colons pool e → Ended colons pool (e ++ rest)
@@ -56,7 +56,7 @@ module _ (t e : List ℕ) (a b : ℕ) (h : a ≤ b) (room : b ≤ length t) (siz
   pub kept-behind : drop b (take a t ++ (e ++ drop (b - a) (drop a t))) ≡ drop b t
   kept-behind = behind-part t e a b h room full
 
-  pub marks-there : (pool : List ℕ) → b - a ≡ 260 → Marked pool e → Marked pool (drop a (take a t ++ (e ++ drop (b - a) (drop a t))))
+  pub marks-there : (pool : List ℕ) → b - a ≡ 516 → Marked pool e → Marked pool (drop a (take a t ++ (e ++ drop (b - a) (drop a t))))
   marks-there pool n m = subst (Marked pool) (sym (from-part t e a b h room full)) (marked-with pool e (drop (b - a) (drop a t)) (full ∙ n) m)
 
   pub ends-there : (colons : Bool) (pool : List ℕ) → b - a ≡ 130 → Ended colons pool e → Ended colons pool (drop a (take a t ++ (e ++ drop (b - a) (drop a t))))

@@ -33,7 +33,7 @@ abbrev pub MARKS : ℕ
 MARKS = 2317
 
 abbrev pub WORDS : ℕ
-WORDS = 2577
+WORDS = 2833
 
 -- the hash of a name by two bases
 unfoldable pub keyedHash : ℕ → ℕ → List ℕ → ℕ

@@ -60,7 +60,7 @@ pub fn hash_at(tables: &[u16], pool: &[u8], start: usize, end: usize) -> u16
 }
 
 // The same by the bases. The bytes of a short name are fewer than those that its polynomials cost.
-fn keyed_hash_at(tables: &[u16], pool: &[u8], start: usize, end: usize) -> u16
+pub fn keyed_hash_at(tables: &[u16], pool: &[u8], start: usize, end: usize) -> u16
     requires { ⌜ Tables (now tables) (now pool) × (0 < getD (now tables) MADE 0) ⌝ }
     requires { ⌜ (start ≤ end) × (end ≤ length (now pool)) × (length (now pool) ≤ MOST) ⌝ }
     ensures { λ r. ⌜ r ≡ hashIn (now (tables .entry)) (between (now (pool .entry)) start end) ⌝ }

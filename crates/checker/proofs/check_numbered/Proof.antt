@@ -39,7 +39,7 @@ mark-requires : tie.Need-mark-requires
 mark-requires c κs =
     let i = c .before .before in
     let e = arrays i in
-    ((e .rows, e .bytes), (omega arith, zeros-marked 260 (now (i .before .before .before .before .before .before .args .pool))))
+    ((e .rows, e .bytes), (omega arith, zeros-marked 516 (now (i .before .before .before .before .before .before .args .pool))))
 
 slice-aggregate-check-sized : tie.Need-slice-aggregate-check-sized
 slice-aggregate-check-sized c = sym (c .before .before .mark .kept .1 .1 .1 .0)

@@ -93,7 +93,7 @@ marked-part-requires : tie.Need-marked-part-requires
 marked-part-requires c κs =
     let s = c .before .before .before .before .before .before .before .before in
     let i = c .before .before .before .before .index in
-    (marked-at (now (s .args .pool)) (now (s .args .marks)) (s .args .start / 256 + 1) (i .result) (c .index2 .result) (s .pre .0) (omega arith) (i .ensures) (c .index2 .ensures) (omega arith), (omega arith, omega arith, s .pre .1 .1 .1))
+    (marked-at (now (s .args .pool)) (now (s .args .marks)) (s .args .start / 128 + 1) (i .result) (c .index2 .result) (s .pre .0) (omega arith) (i .ensures) (c .index2 .ensures) (omega arith), (omega arith, omega arith, s .pre .1 .1 .1))
 
 -- src/marks.rt:39:1
 returns-3 : tie.Need-returns-3

@@ -36,7 +36,7 @@ mark-requires : tie.Need-mark-requires
 mark-requires c κs =
     let i = c .before .before in
     let e = arrays i in
-    ((e .rows, e .bytes), (omega arith, zeros-marked 260 (now (i .before .before .before .before .before .before .before .args .pool))))
+    ((e .rows, e .bytes), (omega arith, zeros-marked 516 (now (i .before .before .before .before .before .before .before .args .pool))))
 
 slice-aggregate-judge-sized : tie.Need-slice-aggregate-judge-sized
 slice-aggregate-judge-sized c = sym (c .before .before .mark .kept .1 .1 .1 .0)
