@@ -4,7 +4,7 @@
 #   make install PREFIX=DIR     puts header, library, command, pkg-config file and man pages below DIR; DESTDIR goes before it
 #   make install-library        all of it but the command
 #   make tool                   builds target/bin/noemathu, the command; needs libxml2 with its headers
-#   make example                builds target/example/host, planner, salvage and ten_lines
+#   make example                builds target/example/host, panels, planner, salvage and ten_lines
 #   make test                   the tests of the C interface and of the command
 #   make check                  those for which this machine has what they need, and says which were left out
 #   make fuzz                   fuzzes both for a minute each, with clang
@@ -52,7 +52,7 @@ install-library: $(LIBRARY)
 	$(INSTALL) -m 644 target/noemathu.pc $(root)/lib/pkgconfig/noemathu.pc
 	$(INSTALL) -m 644 man/noemathu.3 $(root)/share/man/man3/noemathu.3
 
-example: target/example/host target/example/planner target/example/salvage target/example/ten_lines
+example: target/example/host target/example/panels target/example/planner target/example/salvage target/example/ten_lines
 
 target/example/%: example/%.c include/noemathu.h $(LIBRARY)
 	mkdir -p target/example
@@ -71,7 +71,7 @@ target/tool/%.o: tool/%.c $(headers) | libxml2-headers
 	@mkdir -p target/tool
 	$(CC) -std=c11 $(CFLAGS) $(tool_warnings) -Iinclude $(xml_cflags) -c -o $@ $<
 
-test: test-header test-boundary test-example test-install test-utf8 test-xml test-compare test-tool
+test: test-header test-boundary test-example test-install test-utf8 test-xml test-compare test-versions test-tool
 	@echo "the tests of the C interface and of the command passed"
 
 check:
@@ -93,6 +93,8 @@ target/tests/boundary: tests/boundary.c include/noemathu.h $(LIBRARY)
 test-example: example
 	target/example/host >target/example/host.stdout
 	cmp target/example/host.stdout example/host.stdout
+	target/example/panels >target/example/panels.stdout
+	cmp target/example/panels.stdout example/panels.stdout
 	target/example/planner >target/example/planner.stdout
 	cmp target/example/planner.stdout example/planner.stdout
 	target/example/salvage >target/example/salvage.stdout
@@ -147,6 +149,7 @@ test-damage: target/tests/tool/damage
 	mkdir -p target/tests/damaged
 	tests/tool/shapes.py target/tests/damaged --count 60
 	tests/tool/refused.py target/tests/damaged 100
+	cp tests/version1/*.ntb target/tests/damaged/
 	target/tests/tool/damage target/tests/damaged $(DAMAGED) 1
 
 # What the command says of names is what the second reading of the rules says.
@@ -169,10 +172,14 @@ target/fuzz/reader: tests/fuzz/reader.c $(filter-out tool/main.c,$(sources)) $(h
 	mkdir -p target/fuzz
 	$(CLANG) -std=c11 -g -O1 -fsanitize=fuzzer,address,undefined $(tool_warnings) -Werror -Iinclude $(xml_cflags) -o $@ $(filter %.c,$^) $(LIBRARY) $(xml_libs)
 
+# Of bundles of version 1 every call answers what it answers of the same rows in version 2.
+test-versions: $(LIBRARY)
+	tests/versions --library $(LIBRARY)
+
 # The library and the second reading of the rules give the same answers, and the comparison finds the planted faults.
 test-compare: $(LIBRARY)
 	tests/compare --library $(LIBRARY) --count $(BUNDLES)
 	tests/test-the-test --library $(LIBRARY)
 
 .PHONY: all install install-library tool libxml2-headers example test check test-header test-boundary test-example test-install test-utf8 test-xml test-compare \
-	test-tool test-transcripts test-audit test-damage test-real-shapes fuzz
+	test-versions test-tool test-transcripts test-audit test-damage test-real-shapes fuzz

@@ -114,11 +114,11 @@ static int long_names(long count, size_t length)
 /* The pairs of the bucket that most pairs fall into, by the numbers of the local name and the URI. */
 static int doubles(long count, unsigned names)
 {
-    enum { BUCKETS = 1024 };
-    static const uint32_t table[20] = {1, UINT32_MAX, 0, 0, 0, 0, 0, 0, 0, 0, 2};
+    enum { BUCKETS = 1024, WORDS = 11 };
+    static const uint32_t table[2 * WORDS] = {[0] = 1, [1] = UINT32_MAX, [WORDS] = 2};
     static uint16_t notes[64];
     static long found[BUCKETS + 1];
-    slice words = {table, 20}, noted = {notes, 64};
+    slice words = {table, 2 * WORDS}, noted = {notes, 64};
     size_t most = 0, bucket;
     for (int pass = 0; pass < 2; pass++)
         for (unsigned local = 1; local <= names; local++)

@@ -25,15 +25,15 @@ HELD = (1, 2, 3, 4, 7, 8, 9, 13)
 
 
 def tree(random):
-    maker = generator.Maker(random)
-    generator.grow(maker, generator.ManyMakers(random), random.randint(3, 25))
-    return maker.table(), bytes(maker.pool)
+    builder = generator.Builder(random)
+    generator.grow(builder, generator.ManyMakers(random), random.randint(3, 25))
+    return builder.table(), bytes(builder.pool)
 
 
 def suits(table, pool):
     """Accepted, with an element, and one row without a parent."""
-    types = table[::10]
-    return (all(type in HELD for type in types) and table[1::10].count(reading.NONE) == 1 and 1 in types
+    types = table[::reading.WIDTH]
+    return (all(type in HELD for type in types) and table[1::reading.WIDTH].count(reading.NONE) == 1 and 1 in types
             and reading.check(table, pool)[0] == 0)
 
 

@@ -60,7 +60,7 @@ static void make_names(const char *names)
 /* The bundle that a call is about: one element with the name, or one with two attributes that have a name each. */
 static void make_bundle(bool attributes)
 {
-    put('N' | 'T' << 8 | 'B' << 16 | 1 << 24, 4);
+    put('N' | 'T' << 8 | 'B' << 16 | NOEMATHU_BUNDLE_VERSION << 24, 4);
     put(0, 2);
     put(attributes ? 3 : 1, 2);
     put((uint32_t)(2 + length + (attributes ? other_length : 0)), 4);

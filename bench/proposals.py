@@ -19,9 +19,9 @@ ROWS, POOL = 1024, 32768
 
 
 def split(bundle):
-    """The rows of a bundle, each a list of ten words, and its pool."""
+    """The rows of a bundle, each a list of words without its maker, and its pool."""
     count = struct.unpack_from("<H", bundle, 6)[0]
-    return [list(struct.unpack_from("<10I", bundle, 12 + 40 * row)) for row in range(count)], bundle[12 + 40 * count:]
+    return [list(struct.unpack_from("<10I", bundle, 12 + 44 * row)) for row in range(count)], bundle[12 + 44 * count:]
 
 
 def table_of(rows, pool):

@@ -5,12 +5,15 @@ Usage: bench/tables.py DIR
 
 The rows of a table for normalization are those of its result: the table is as much shorter as that adds rows.
 The tables are the same in every run: the generator is seeded, and uses only its own arithmetic. A hundred different
-trees (`grown`) stand in one file, each behind its length, a little-endian word.
+trees (`grown`) stand in one file, each behind its length, a little-endian word. The rows are by six makers, some rows by each in
+turn. DIR/version1 gets the tables that the check, the lookups and normalization are counted on as bundles of version 1.
 """
+import os
 import struct
 import sys
 
 NONE = 4294967295
+ROW_WORDS = {1: 10, 2: 11}
 NOTHING = (0, 0)
 URIS = ["http://www.example.org/" + name for name in ("orders", "parts", "people", "2026/schema")]
 PREFIXES = ["o", "p", "per", "s"]
@@ -29,7 +32,13 @@ class Numbers:
         return (self.state >> 33) % n
 
 
+def maker(row):
+    return 1 + row // 20 % 6
+
+
 class Table:
+    """Rows without their makers, which are told by the rows' numbers."""
+
     def __init__(self, letters=None):
         self.rows, self.pool, self.places, self.letters = [], bytearray(), {}, letters or {}
 
@@ -45,13 +54,13 @@ class Table:
         self.rows.append((kind, parent, *prefix, *local, *uri, *value))
         return len(self.rows) - 1
 
-    def bundle(self):
-        words = [word for row in self.rows for word in row]
-        return b"NTB" + struct.pack("<HBHI%dI" % len(words), 1, 0, len(self.rows), len(self.pool), *words) + self.pool
+    def bundle(self, version=2):
+        words = [word for i, row in enumerate(self.rows) for word in (*row, maker(i))[:ROW_WORDS[version]]]
+        return b"NTB" + struct.pack("<HBHI%dI" % len(words), version, 0, len(self.rows), len(self.pool), *words) + self.pool
 
-    def write(self, path):
+    def write(self, path, version=2):
         with open(path, "wb") as out:
-            out.write(self.bundle())
+            out.write(self.bundle(version))
 
 
 def start(table):
@@ -503,11 +512,15 @@ DEEPEST = (elements_own, elements_declared, references_own, references_declared,
 def main():
     if len(sys.argv) != 2:
         sys.exit(__doc__)
+    os.makedirs(sys.argv[1] + "/version1", exist_ok=True)
     for make in CHECKED + PACKED + SALVAGED + ASKED + WRITTEN + NORMALIZED:
         for rows in (250, 500, 1000):
             make(rows).write("%s/%s-%d" % (sys.argv[1], make.__name__, rows))
+            if make in CHECKED + ASKED + NORMALIZED:
+                make(rows).write("%s/version1/%s-%d" % (sys.argv[1], make.__name__, rows), 1)
     for make in (ordinary, typical):
         make(10).write("%s/%s-10" % (sys.argv[1], make.__name__))
+        make(10).write("%s/version1/%s-10" % (sys.argv[1], make.__name__), 1)
     with open("%s/typical-trees" % sys.argv[1], "wb") as out:
         for seed in range(100):
             bundle = grown(1000, 1000 + seed).bundle()

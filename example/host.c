@@ -1,6 +1,7 @@
 /* A host's work: two makers hand over their nodes, each as a bundle of its own. The host grafts both into one session
    bundle, asks what a prefix means at a node, writes the session as XML, normalizes it, and asks and writes again. Then
-   the session is edited for some time, which leaves texts in its pool that no row uses any more, and is packed.
+   the session is edited for some time, which leaves texts in its pool that no row uses any more, and is packed. All the
+   while each row says whose it is: the host is maker 1.
 
    The tree is printed like XML with the namespace URI of each name in braces. Those are what the makers meant; before
    normalization the declarations say something else, and there is no XML text that means the same. */
@@ -50,10 +51,13 @@ static uint32_t add_row(struct nodes *nodes, noemathu_row row)
     return (uint32_t)nodes->rows++;
 }
 
+/* Whose the rows are that are added. */
+static uint32_t maker;
+
 static uint32_t add(struct nodes *nodes, uint32_t type, uint32_t parent, const char *prefix, const char *local_name,
                     const char *uri, const char *value)
 {
-    noemathu_row row = {.type = type, .parent = parent};
+    noemathu_row row = {.type = type, .parent = parent, .maker = maker};
     row.prefix = put(nodes, prefix);
     row.local_name = put(nodes, local_name);
     row.uri = put(nodes, uri);
@@ -219,6 +223,15 @@ static void edit_text(struct bundle *bundle, uint32_t row, int edits)
     write_bundle(&nodes, bundle);
 }
 
+/* How many rows each of the three makers has. */
+static void print_makers(const char *title, const struct bundle *bundle)
+{
+    size_t rows[4] = {0};
+    for (size_t i = 0; i < noemathu_row_count(bundle->bytes); i++)
+        rows[noemathu_row_of(bundle->bytes, i).maker]++;
+    printf("%s, rows of makers 1, 2 and 3: %zu, %zu, %zu\n", title, rows[1], rows[2], rows[3]);
+}
+
 /* How long a session is and how much of it is names, and its XML text. */
 static void show_size(const char *title, const struct bundle *bundle)
 {
@@ -229,16 +242,19 @@ static void show_size(const char *title, const struct bundle *bundle)
 int main(void)
 {
     static struct nodes order, person, nodes;
-    static struct bundle maker, session, normalized, packed;
+    static struct bundle made, session, normalized, packed;
+    maker = 1;
     uint32_t root = add(&nodes, NOEMATHU_ELEMENT, NOEMATHU_NONE, "", "session", "urn:session", "");
 
+    maker = 2;
     make_order(&order);
-    write_bundle(&order, &maker);
-    uint32_t first = graft(&nodes, root, &maker);
+    write_bundle(&order, &made);
+    uint32_t first = graft(&nodes, root, &made);
 
+    maker = 3;
     make_person(&person);
-    write_bundle(&person, &maker);
-    uint32_t second = graft(&nodes, first, &maker);
+    write_bundle(&person, &made);
+    uint32_t second = graft(&nodes, first, &made);
 
     write_bundle(&nodes, &session);
     show("before", &session, second, "p");
@@ -254,6 +270,8 @@ int main(void)
     stop_if(used.refusal);
     packed.length = used.bytes;
     show_size("packed", &packed);
+    print_makers("before", &session);
+    print_makers("after", &packed);
     puts("");
 
     /* A maker who counts one byte too many: the length of a URI that ends with the pool. */

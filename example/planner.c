@@ -100,7 +100,8 @@ static void propose(const struct bundle *from, enum plan plan, struct bundle *ou
         const char *prefix = row.type == NOEMATHU_ELEMENT || row.type == NOEMATHU_ATTRIBUTE ? wished(from, row.uri) : NULL;
         if (!prefix)
             continue;
-        noemathu_row declaration = {.type = NOEMATHU_DECLARATION, .parent = row.type == NOEMATHU_ELEMENT ? i : row.parent};
+        noemathu_row declaration = {.type = NOEMATHU_DECLARATION, .parent = row.type == NOEMATHU_ELEMENT ? i : row.parent,
+                                    .maker = row.maker};
         row.prefix = declaration.local_name = put(&nodes, prefix);
         declaration.value = row.uri;
         if (plan == LIES && row.type == NOEMATHU_ATTRIBUTE)

@@ -1,7 +1,8 @@
 /* An old session, from an archive of the time before there was a check: it declares what may not be declared, a prefix
-   twice and an attribute twice. The check refuses it, at the first such row. The host salvages it, tells its engineer which
-   rows were dropped, each by its old number and its name, and why, and goes on with the rest: what the names mean is mended
-   by normalization, and packing leaves the names of the dropped rows out. */
+   twice and an attribute twice, and is a bundle of version 1, whose rows have no makers. The check refuses it, at the first
+   such row. The host salvages it, tells its engineer which rows were dropped, each by its old number and its name, and why,
+   and goes on with the rest, which is of version 2: what the names mean is mended by normalization, and packing leaves the
+   names of the dropped rows out. */
 #include <noemathu.h>
 #include <stdio.h>
 #include <stdlib.h>
@@ -72,8 +73,9 @@ static void write_archive(struct bundle *bundle)
     bundle->length = 6;
     put_number(bundle, ARCHIVED, 2);
     put_number(bundle, (uint32_t)held, 4);
-    for (size_t i = 0; i < NOEMATHU_ROW_WORDS * ARCHIVED; i++)
-        put_number(bundle, table[i], 4);
+    for (size_t i = 0; i < ARCHIVED; i++)
+        for (size_t k = 0; k < NOEMATHU_OLD_ROW_WORDS; k++)
+            put_number(bundle, table[NOEMATHU_ROW_WORDS * i + k], 4);
     memcpy(bundle->bytes + bundle->length, pool, held);
     bundle->length += held;
 }
@@ -105,7 +107,7 @@ static void salvage(const struct bundle *from, struct bundle *to)
         noemathu_salvage(from->bytes, from->length, to->bytes, sizeof to->bytes, list, NOEMATHU_LIST_MOST);
     stop_if(salvaged.refusal);
     to->length = salvaged.bytes;
-    printf("salvaged, %zu bytes; dropped:\n", to->length);
+    printf("salvaged, %zu bytes of version %u; dropped:\n", to->length, noemathu_version(to->bytes));
     for (size_t i = 0; i < salvaged.dropped; i++) {
         uint32_t row = list[2 * i], number = list[2 * i + 1];
         printf("    row %u, ", row);
@@ -130,7 +132,7 @@ int main(void)
 {
     static struct bundle old, salvaged, normalized, packed;
     write_archive(&old);
-    printf("an old session, %zu bytes: ", old.length);
+    printf("an old session, %zu bytes of version %u: ", old.length, noemathu_version(old.bytes));
     print_refusal(noemathu_check(old.bytes, old.length));
 
     salvage(&old, &salvaged);

@@ -13,10 +13,10 @@
    library is for x86-64 and calls nothing but the C library's memory functions.
 
 
-   Ten words to a row
-   ------------------
+   Eleven words to a row
+   ---------------------
 
-   A node is a row of ten 32-bit words. Names, URIs and values are bytes in a
+   A node is a row of eleven 32-bit words. Names, URIs and values are bytes in a
    pool, and a row says where: by an offset in the pool and a length.
 
      word  0     the type of the node: NOEMATHU_ELEMENT and so on
@@ -27,11 +27,19 @@
      words 4, 5  local name:     offset, length
      words 6, 7  namespace URI:  offset, length
      words 8, 9  value:          offset, length
+     word 10     the maker: any number
 
    Rows count from 0. Length 0 means that the node has none of it, and the
    offset is then 0. Rows of one owner need not be adjacent; their order is row
    order. Several rows may refer to the same bytes of the pool. There are at most
    1,024 rows and 32,768 pool bytes.
+
+   The maker says whose row it is, by a number that you give out; 0 where nobody
+   says. It is never refused, and no lookup looks at it. Every row keeps its maker,
+   and a declaration that noemathu_normalize adds has that of the row that needs
+   it: the element whose own name it declares, or the attribute, also where its
+   prefix is a new one; of several that need the same one, the first. A declaration
+   whose value is set stays its maker's.
 
    A namespace declaration is a row of its own, of type 13: its local name is the
    declared prefix, empty for the default namespace, and its value is the URI.
@@ -66,35 +74,63 @@
    All numbers are little-endian, on every machine.
 
      bytes  0 to  2   the mark, `NTB`
-     bytes  3 and 4   the version, 1
+     bytes  3 and 4   the version, 2
      byte   5         zero
      bytes  6 and 7   how many rows
      bytes  8 to 11   how many pool bytes
-     from byte 12     the rows, 40 bytes each
+     from byte 12     the rows, 44 bytes each
      behind them      the pool; nothing stands behind it
 
-   An element `a` with the URI `U`, no prefix and no parent is this bundle of 54
-   bytes, in hexadecimal:
+   An element `a` with the URI `U`, no prefix and no parent, by maker 7, is this
+   bundle of 58 bytes, in hexadecimal:
 
-     4e 54 42  01 00  00  01 00  02 00 00 00     NTB, 1, 0, one row, two bytes
+     4e 54 42  02 00  00  01 00  02 00 00 00     NTB, 2, 0, one row, two bytes
      01 00 00 00  ff ff ff ff                    row 0: an element, NOEMATHU_NONE
      00 00 00 00  00 00 00 00                      no prefix
      00 00 00 00  01 00 00 00                      local name: at 0, 1 byte
      01 00 00 00  01 00 00 00                      URI: at 1, 1 byte
      00 00 00 00  00 00 00 00                      no value
+     07 00 00 00                                   maker 7
      61 55                                       the pool, `aU`
 
    Nothing there declares that the default namespace is `U`. noemathu_normalize
-   appends the declaration, which refers to the URI's bytes where they stand:
+   appends the declaration, which refers to the URI's bytes where they stand, and
+   is by the element's maker:
 
      0d 00 00 00  00 00 00 00                    row 1: a declaration of row 0
      00 00 00 00  00 00 00 00
      00 00 00 00  00 00 00 00                      for the empty prefix
      00 00 00 00  00 00 00 00
      01 00 00 00  01 00 00 00                      value: at 1, 1 byte
+     07 00 00 00                                   maker 7
 
    That bundle is <a xmlns="U"></a> as XML text, of 17 bytes: see
-   noemathu_write_xml.
+   noemathu_write_xml. XML text has no makers.
+
+
+   Bundles of version 1
+   --------------------
+
+   Up to 0.4.0 of this library a row was ten words: it had no maker. The bundles of
+   that time have the version 1 and rows of 40 bytes. Every function takes them, and
+   answers what it answers of the same rows with the maker 0. What is written is of
+   version 2, whatever came in: it has four bytes more for each row, also where
+   nothing else is changed, and 33 is judged by that. Any other version is refused
+   by 31, so a library up to 0.4.0 refuses what this one writes.
+
+   A host that was written for version 1 is compiled anew, and looks at these:
+
+   - Is a 10 or a 40 in it the length of a row? A table has NOEMATHU_ROW_WORDS to a
+     row, a bundle noemathu_row_bytes. The helpers below go by the version of the
+     bundle that they look into.
+   - Does it fill in a noemathu_row field by field? The maker is a field more.
+   - Does it lend an output as long as the input, or one of 73,740 bytes? The rows and
+     the pool of a bundle of version 1 take NOEMATHU_BUNDLE_BYTES(rows, pool bytes)
+     now, and noemathu_salvage needs as many where it drops nothing.
+   - Does it compare the length, or the bytes, of what it handed in with those of the
+     result, to see whether anything was changed? Of a bundle of version 1 the bytes
+     are always others, and the length is wherever it has rows. Compare with what
+     noemathu_read and noemathu_write make of it.
 
 
    Memory
@@ -151,17 +187,22 @@
 extern "C" {
 #endif
 
-#define NOEMATHU_VERSION "0.4.0"
+#define NOEMATHU_VERSION "0.5.0"
 
-/* The limits of a table, and of a bundle: 73,740 bytes. */
-#define NOEMATHU_ROW_WORDS 10
+/* The limits of a table, and of a bundle: 77,836 bytes. */
+#define NOEMATHU_ROW_WORDS 11
 #define NOEMATHU_MOST_ROWS 1024
 #define NOEMATHU_MOST_WORDS (NOEMATHU_ROW_WORDS * NOEMATHU_MOST_ROWS)
 #define NOEMATHU_MOST_POOL 32768
 #define NOEMATHU_BUNDLE_HEADER 12
 #define NOEMATHU_BUNDLE_MOST NOEMATHU_BUNDLE_BYTES(NOEMATHU_MOST_ROWS, NOEMATHU_MOST_POOL)
 
-/* The bytes of a bundle of so many rows and pool bytes. */
+/* The version of the bundles that are written, and the words that a row had in
+   version 1. */
+#define NOEMATHU_BUNDLE_VERSION 2
+#define NOEMATHU_OLD_ROW_WORDS 10
+
+/* The bytes of a bundle of so many rows and pool bytes, as it is written. */
 #define NOEMATHU_BUNDLE_BYTES(rows, pool_bytes) \
     (NOEMATHU_BUNDLE_HEADER + 4 * NOEMATHU_ROW_WORDS * (size_t)(rows) + (size_t)(pool_bytes))
 
@@ -314,11 +355,13 @@ extern "C" {
 /* The bytes do not begin with `NTB`. This is no bundle. */
 #define NOEMATHU_REFUSED_MARK 30
 
-/* The version is not 1, or the bytes end before it. Ask for a newer library. */
+/* The version is neither 1 nor 2, or the bytes end before it. Ask for a newer
+   library. */
 #define NOEMATHU_REFUSED_VERSION 31
 
-/* The bytes are more or fewer than the header says, or byte 5 is not zero. The
-   bundle was cut, lengthened or damaged: get it anew. */
+/* The bytes are more or fewer than the header says, by the length that rows have in
+   its version, or byte 5 is not zero. The bundle was cut, lengthened or damaged: get
+   it anew. */
 #define NOEMATHU_REFUSED_LENGTHS 32
 
 /* The output is too short for the bundle. Lend NOEMATHU_BUNDLE_MOST bytes, or
@@ -456,11 +499,11 @@ noemathu_refusal noemathu_check(const uint8_t *bundle, size_t length);
 /* Judges a bundle that somebody else made of another, to have prefixes of their
    own. It is accepted exactly if both pass noemathu_check; neither has rows of
    type 257 or 258; every row of the original has in the proposal its type, its
-   parent and the bytes of its local name, URI and value, save that a declaration
-   may have another value; an attribute without an owner has its prefix; every
-   further row is a declaration; and every element and owned attribute means its
-   URI in scope. Prefixes, offsets and the pool may be others. What
-   noemathu_normalize makes of the original is always accepted, and
+   parent, its maker and the bytes of its local name, URI and value, save that a
+   declaration may have another value; an attribute without an owner has its prefix;
+   every further row is a declaration, by any maker; and every element and owned
+   attribute means its URI in scope. Prefixes, offsets, the pool and the version may
+   be others. What noemathu_normalize makes of the original is always accepted, and
    noemathu_normalize leaves what is accepted as it is. Refusals: 40 to 44, in
    this order; 40 for the original and 41 for the proposal also stand for 30 to
    32, with row 0; 42 names the lowest row, of the original first; 43 the lowest
@@ -525,10 +568,10 @@ noemathu_used noemathu_normalize(const uint8_t *bundle, size_t length,
 
 /* Packs a bundle into another one, whose pool is each distinct field once: end to
    end, in order of first use, row after row and word after word, prefixes, local
-   names, URIs and values together. Every field keeps its bytes and every other word
-   its number, so that every lookup finds the same bytes, at another place. What is
-   packed passes noemathu_check, and packing it again changes nothing. Rows of type
-   257 and 258 are packed as others are.
+   names, URIs and values together. Every field keeps its bytes and every other word,
+   the maker too, its number, so that every lookup finds the same bytes, at another
+   place. What is packed passes noemathu_check, and packing it again changes nothing.
+   Rows of type 257 and 258 are packed as others are.
 
    Bytes that no row uses are gone, and equal ones stand once. But a field that is
    only a part of another one is an entry of its own, so that a packed pool can be
@@ -549,12 +592,14 @@ noemathu_used noemathu_pack(const uint8_t *bundle, size_t length,
    The list gets two words for each dropped row, in row order: the number that it
    had, and 6 or 7, which noemathu_text explains; 6 where it draws both.
    NOEMATHU_LIST_MOST words are always enough, and as many bytes for the output as
-   the bundle has. Neither may overlap anything, and both are written whole.
+   the bundle has, with four more for each row where it is of version 1. Neither may
+   overlap anything, and both are written whole.
 
    What is written passes noemathu_check, and a bundle that passes it comes back
-   unchanged, with an empty list. That is all that is promised: where a declaration
-   was dropped, a prefix may mean another URI than it did, or none. Normalize
-   afterwards, and every element and attribute means its own again.
+   with its rows and its pool unchanged, and an empty list. That is all that is
+   promised: where a declaration was dropped, a prefix may mean another URI than it
+   did, or none. Normalize afterwards, and every element and attribute means its own
+   again.
 
    Refusals: 30 to 32, 1 to 5, 12 to 14, at the first row that draws one of them,
    whatever rows before it are dropped; 10 where the list is too short; 33. */
@@ -562,13 +607,14 @@ noemathu_salvaged noemathu_salvage(const uint8_t *bundle, size_t length, uint8_t
                                    uint32_t *list, size_t list_words);
 
 /* Reads a bundle into a table and a pool. Refusals: 30 to 32, 1 to 7, 12 to 14;
-   10 where the table has too few whole rows, 11 where the pool is too short. */
+   10 where the table has too few whole rows, 11 where the pool is too short. Rows
+   have NOEMATHU_ROW_WORDS in the table, also those of a bundle of version 1. */
 noemathu_sizes noemathu_read(const uint8_t *bundle, size_t length,
                              uint32_t *table, size_t table_words, uint8_t *pool, size_t pool_size);
 
 /* Writes a table and its pool as a bundle. What noemathu_read reads and
-   noemathu_write writes is the same, byte for byte and word for word. Refusals:
-   1 to 7, 12 to 14, 33. */
+   noemathu_write writes is the same, word for word, and byte for byte where the
+   bundle was of version 2. Refusals: 1 to 7, 12 to 14, 33. */
 noemathu_used noemathu_write(const uint32_t *table, size_t table_words,
                              const uint8_t *pool, size_t pool_size, uint8_t *out, size_t out_size);
 
@@ -603,6 +649,7 @@ typedef struct noemathu_row {
     noemathu_place local_name;
     noemathu_place uri;
     noemathu_place value;
+    uint32_t maker;
 } noemathu_row;
 
 /* The number in so many little-endian bytes. */
@@ -614,7 +661,19 @@ static inline uint32_t noemathu_number(const uint8_t *bytes, size_t count)
     return number;
 }
 
-/* How many rows a bundle has. */
+/* The version of a bundle: 2, or 1 where its rows have no makers. */
+static inline uint32_t noemathu_version(const uint8_t *bundle)
+{
+    return noemathu_number(bundle + 3, 2);
+}
+
+/* How many bytes each of its rows takes, by its version. */
+static inline size_t noemathu_row_bytes(const uint8_t *bundle)
+{
+    return 4 * (noemathu_version(bundle) == 1 ? NOEMATHU_OLD_ROW_WORDS : NOEMATHU_ROW_WORDS);
+}
+
+/* How many rows it has. */
 static inline size_t noemathu_row_count(const uint8_t *bundle)
 {
     return noemathu_number(bundle + 6, 2);
@@ -629,7 +688,7 @@ static inline size_t noemathu_pool_length(const uint8_t *bundle)
 /* Its pool. */
 static inline const uint8_t *noemathu_pool(const uint8_t *bundle)
 {
-    return bundle + NOEMATHU_BUNDLE_BYTES(noemathu_row_count(bundle), 0);
+    return bundle + NOEMATHU_BUNDLE_HEADER + noemathu_row_bytes(bundle) * noemathu_row_count(bundle);
 }
 
 /* The bytes of a place in its pool; they do not end in a zero. */
@@ -670,10 +729,13 @@ static inline bool noemathu_default_is(const uint8_t *bundle, noemathu_found def
     return uri_length == 0 || memcmp(noemathu_bytes(bundle, default_uri.place), uri, uri_length) == 0;
 }
 
-/* A word, 0 to 9, of one of its rows. */
+/* A word, 0 to 10, of one of its rows; the maker, word 10, is 0 in version 1. */
 static inline uint32_t noemathu_word(const uint8_t *bundle, size_t row, size_t word)
 {
-    const uint8_t *at = bundle + NOEMATHU_BUNDLE_BYTES(row, 4 * word);
+    size_t bytes = noemathu_row_bytes(bundle);
+    const uint8_t *at = bundle + NOEMATHU_BUNDLE_HEADER + bytes * row + 4 * word;
+    if (4 * word >= bytes)
+        return 0;
     return (uint32_t)at[0] | (uint32_t)at[1] << 8 | (uint32_t)at[2] << 16 | (uint32_t)at[3] << 24;
 }
 
@@ -691,11 +753,12 @@ static inline noemathu_row noemathu_row_of(const uint8_t *bundle, size_t row)
     given.uri.length = noemathu_word(bundle, row, 7);
     given.value.offset = noemathu_word(bundle, row, 8);
     given.value.length = noemathu_word(bundle, row, 9);
+    given.maker = noemathu_word(bundle, row, 10);
     return given;
 }
 
 /* Bytes that are enough for what noemathu_normalize makes of it: each row adds at
-   most a row and six pool bytes. */
+   most a row and six pool bytes, and all are written as rows of version 2. */
 static inline size_t noemathu_room(const uint8_t *bundle)
 {
     size_t rows = noemathu_row_count(bundle), bytes = noemathu_pool_length(bundle);
@@ -794,6 +857,7 @@ static inline void noemathu_put_row(uint32_t *table, size_t row, noemathu_row gi
     words[7] = given.uri.length;
     words[8] = given.value.offset;
     words[9] = given.value.length;
+    words[10] = given.maker;
 }
 
 /* Puts bytes behind those that a pool of some size holds already, and tells their

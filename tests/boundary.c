@@ -1,5 +1,6 @@
 /* The C interface at its edges: no bytes at all, every length up to a whole bundle and some beyond, outputs of every size
-   around the exact one, every alignment, inputs that overlap, the largest bundles, and the stack that a call takes.
+   around the exact one, every alignment, inputs that overlap, the largest bundles, and the stack that a call takes; with
+   bundles of version 1 and of version 2.
 
    Everything lent stands between pages that cannot be touched, once with its end at the page behind and once with its
    start at the page before, and inputs cannot be written to. Around it stands a pattern, which must be there afterwards. */
@@ -26,7 +27,7 @@ static void expect(bool holds, const char *claim, int line)
 
 /* ---- lent memory */
 
-enum { PAGE = 4096, ROOM = 32 * PAGE, PATTERN = 0xa5, EDGE = 64 };
+enum { PAGE = 4096, ROOM = 32 * PAGE, PATTERN = 0xa5, EDGE = 64, WORDS = NOEMATHU_ROW_WORDS };
 
 /* Pages between two that cannot be touched, and what is lent of them. */
 struct room {
@@ -109,43 +110,90 @@ static const struct where ENDS = {false, 0};
 #define W(n) (n), 0, 0, 0
 #define BYTES(bundle) bundle, sizeof bundle
 
-/* Examples A and B of the rules, what normalization makes of them, and what packing makes of B's. */
-static const uint8_t bundle_a[] = {'N', 'T', 'B', 1, 0, 0, 1, 0, W(2),
+#define LARGE_MAKER 254, 255, 255, 255
+#define VERSION_2 'N', 'T', 'B', 2, 0, 0
+#define VERSION_1 'N', 'T', 'B', 1, 0, 0
+
+/* Examples A and B of the rules, by makers, what normalization makes of them, and what packing makes of B's. */
+static const uint8_t bundle_a[] = {VERSION_2, 1, 0, W(2),
+    W(1), NONE_BYTES, W(0), W(0), W(0), W(1), W(1), W(1), W(0), W(0), W(7), 'a', 'U'};
+static const uint8_t result_a[] = {VERSION_2, 2, 0, W(2),
+    W(1), NONE_BYTES, W(0), W(0), W(0), W(1), W(1), W(1), W(0), W(0), W(7),
+    W(13), W(0), W(0), W(0), W(0), W(0), W(0), W(0), W(1), W(1), W(7), 'a', 'U'};
+static const uint8_t bundle_b[] = {VERSION_2, 2, 0, W(3),
+    W(1), NONE_BYTES, W(0), W(0), W(0), W(1), W(0), W(0), W(0), W(0), W(7),
+    W(2), W(0), W(0), W(0), W(2), W(1), W(1), W(1), W(0), W(0), LARGE_MAKER, 'a', 'U', 'b'};
+static const uint8_t result_b[] = {VERSION_2, 3, 0, W(6),
+    W(1), NONE_BYTES, W(0), W(0), W(0), W(1), W(0), W(0), W(0), W(0), W(7),
+    W(2), W(0), W(3), W(3), W(2), W(1), W(1), W(1), W(0), W(0), LARGE_MAKER,
+    W(13), W(0), W(0), W(0), W(3), W(3), W(0), W(0), W(1), W(1), LARGE_MAKER, 'a', 'U', 'b', 'N', 'S', '1'};
+static const uint8_t packed_b[] = {VERSION_2, 2, 0, W(3),
+    W(1), NONE_BYTES, W(0), W(0), W(0), W(1), W(0), W(0), W(0), W(0), W(7),
+    W(2), W(0), W(0), W(0), W(1), W(1), W(2), W(1), W(0), W(0), LARGE_MAKER, 'a', 'b', 'U'};
+static const uint8_t packed_result_b[] = {VERSION_2, 3, 0, W(6),
+    W(1), NONE_BYTES, W(0), W(0), W(0), W(1), W(0), W(0), W(0), W(0), W(7),
+    W(2), W(0), W(1), W(3), W(4), W(1), W(5), W(1), W(0), W(0), LARGE_MAKER,
+    W(13), W(0), W(0), W(0), W(1), W(3), W(0), W(0), W(5), W(1), LARGE_MAKER, 'a', 'N', 'S', '1', 'b', 'U'};
+static const uint8_t bundle_none[] = {VERSION_2, 0, 0, W(0)};
+
+/* A with a declaration of its own, by another maker, which is set and stays that maker's. */
+static const uint8_t bundle_c[] = {VERSION_2, 2, 0, W(3),
+    W(1), NONE_BYTES, W(0), W(0), W(0), W(1), W(1), W(1), W(0), W(0), W(7),
+    W(13), W(0), W(0), W(0), W(0), W(0), W(0), W(0), W(2), W(1), W(5), 'a', 'U', 'b'};
+static const uint8_t result_c[] = {VERSION_2, 2, 0, W(3),
+    W(1), NONE_BYTES, W(0), W(0), W(0), W(1), W(1), W(1), W(0), W(0), W(7),
+    W(13), W(0), W(0), W(0), W(0), W(0), W(0), W(0), W(1), W(1), W(5), 'a', 'U', 'b'};
+
+/* A and B of version 1, the same rows of version 2, and what is made of them: the maker is 0. */
+static const uint8_t old_a[] = {VERSION_1, 1, 0, W(2),
     W(1), NONE_BYTES, W(0), W(0), W(0), W(1), W(1), W(1), W(0), W(0), 'a', 'U'};
-static const uint8_t result_a[] = {'N', 'T', 'B', 1, 0, 0, 2, 0, W(2),
+static const uint8_t new_a[] = {VERSION_2, 1, 0, W(2),
+    W(1), NONE_BYTES, W(0), W(0), W(0), W(1), W(1), W(1), W(0), W(0), W(0), 'a', 'U'};
+static const uint8_t new_result_a[] = {VERSION_2, 2, 0, W(2),
+    W(1), NONE_BYTES, W(0), W(0), W(0), W(1), W(1), W(1), W(0), W(0), W(0),
+    W(13), W(0), W(0), W(0), W(0), W(0), W(0), W(0), W(1), W(1), W(0), 'a', 'U'};
+static const uint8_t old_result_a[] = {VERSION_1, 2, 0, W(2),
     W(1), NONE_BYTES, W(0), W(0), W(0), W(1), W(1), W(1), W(0), W(0),
     W(13), W(0), W(0), W(0), W(0), W(0), W(0), W(0), W(1), W(1), 'a', 'U'};
-static const uint8_t bundle_b[] = {'N', 'T', 'B', 1, 0, 0, 2, 0, W(3),
+static const uint8_t old_b[] = {VERSION_1, 2, 0, W(3),
     W(1), NONE_BYTES, W(0), W(0), W(0), W(1), W(0), W(0), W(0), W(0),
     W(2), W(0), W(0), W(0), W(2), W(1), W(1), W(1), W(0), W(0), 'a', 'U', 'b'};
-static const uint8_t result_b[] = {'N', 'T', 'B', 1, 0, 0, 3, 0, W(6),
-    W(1), NONE_BYTES, W(0), W(0), W(0), W(1), W(0), W(0), W(0), W(0),
-    W(2), W(0), W(3), W(3), W(2), W(1), W(1), W(1), W(0), W(0),
-    W(13), W(0), W(0), W(0), W(3), W(3), W(0), W(0), W(1), W(1), 'a', 'U', 'b', 'N', 'S', '1'};
-static const uint8_t packed_b[] = {'N', 'T', 'B', 1, 0, 0, 2, 0, W(3),
-    W(1), NONE_BYTES, W(0), W(0), W(0), W(1), W(0), W(0), W(0), W(0),
-    W(2), W(0), W(0), W(0), W(1), W(1), W(2), W(1), W(0), W(0), 'a', 'b', 'U'};
-static const uint8_t packed_result_b[] = {'N', 'T', 'B', 1, 0, 0, 3, 0, W(6),
-    W(1), NONE_BYTES, W(0), W(0), W(0), W(1), W(0), W(0), W(0), W(0),
-    W(2), W(0), W(1), W(3), W(4), W(1), W(5), W(1), W(0), W(0),
-    W(13), W(0), W(0), W(0), W(1), W(3), W(0), W(0), W(5), W(1), 'a', 'N', 'S', '1', 'b', 'U'};
-static const uint8_t bundle_none[] = {'N', 'T', 'B', 1, 0, 0, 0, 0, W(0)};
+static const uint8_t new_b[] = {VERSION_2, 2, 0, W(3),
+    W(1), NONE_BYTES, W(0), W(0), W(0), W(1), W(0), W(0), W(0), W(0), W(0),
+    W(2), W(0), W(0), W(0), W(2), W(1), W(1), W(1), W(0), W(0), W(0), 'a', 'U', 'b'};
+static const uint8_t new_result_b[] = {VERSION_2, 3, 0, W(6),
+    W(1), NONE_BYTES, W(0), W(0), W(0), W(1), W(0), W(0), W(0), W(0), W(0),
+    W(2), W(0), W(3), W(3), W(2), W(1), W(1), W(1), W(0), W(0), W(0),
+    W(13), W(0), W(0), W(0), W(3), W(3), W(0), W(0), W(1), W(1), W(0), 'a', 'U', 'b', 'N', 'S', '1'};
+static const uint8_t new_packed_b[] = {VERSION_2, 2, 0, W(3),
+    W(1), NONE_BYTES, W(0), W(0), W(0), W(1), W(0), W(0), W(0), W(0), W(0),
+    W(2), W(0), W(0), W(0), W(1), W(1), W(2), W(1), W(0), W(0), W(0), 'a', 'b', 'U'};
+static const uint8_t old_none[] = {VERSION_1, 0, 0, W(0)};
 
-/* Each with what it is normalized and packed to, and what its XML text from row 0 is, or the refusal that it draws. */
+/* Each with the bundle of its rows and pool as it is written, what it is normalized and packed to, and what its XML text from row
+   0 is, or the refusal that it draws. */
 static const struct sample {
     const uint8_t *bundle;
     size_t length;
+    const uint8_t *written;
+    size_t written_length;
     const uint8_t *result;
     size_t result_length;
     const uint8_t *packed;
     size_t packed_length;
     const char *text;
     noemathu_refusal no_text;
-} samples[] = {{BYTES(bundle_none), BYTES(bundle_none), BYTES(bundle_none), "", {8, 0, 0}},
-               {BYTES(bundle_a), BYTES(result_a), BYTES(bundle_a), "", {23, 0, 0}},
-               {BYTES(bundle_b), BYTES(result_b), BYTES(packed_b), "", {23, 1, 0}},
-               {BYTES(result_a), BYTES(result_a), BYTES(result_a), "<a xmlns=\"U\"></a>", {0, 0, 0}},
-               {BYTES(result_b), BYTES(result_b), BYTES(packed_result_b), "<a NS1:b=\"\" xmlns:NS1=\"U\"></a>", {0, 0, 0}}};
+} samples[] = {
+    {BYTES(bundle_none), BYTES(bundle_none), BYTES(bundle_none), BYTES(bundle_none), "", {8, 0, 0}},
+    {BYTES(bundle_a), BYTES(bundle_a), BYTES(result_a), BYTES(bundle_a), "", {23, 0, 0}},
+    {BYTES(bundle_b), BYTES(bundle_b), BYTES(result_b), BYTES(packed_b), "", {23, 1, 0}},
+    {BYTES(result_a), BYTES(result_a), BYTES(result_a), BYTES(result_a), "<a xmlns=\"U\"></a>", {0, 0, 0}},
+    {BYTES(result_b), BYTES(result_b), BYTES(result_b), BYTES(packed_result_b), "<a NS1:b=\"\" xmlns:NS1=\"U\"></a>", {0, 0, 0}},
+    {BYTES(bundle_c), BYTES(bundle_c), BYTES(result_c), BYTES(bundle_c), "", {23, 0, 0}},
+    {BYTES(old_none), BYTES(bundle_none), BYTES(bundle_none), BYTES(bundle_none), "", {8, 0, 0}},
+    {BYTES(old_a), BYTES(new_a), BYTES(new_result_a), BYTES(new_a), "", {23, 0, 0}},
+    {BYTES(old_b), BYTES(new_b), BYTES(new_result_b), BYTES(new_packed_b), "", {23, 1, 0}},
+    {BYTES(old_result_a), BYTES(new_result_a), BYTES(new_result_a), BYTES(new_result_a), "<a xmlns=\"U\"></a>", {0, 0, 0}}};
 
 enum { SAMPLES = sizeof samples / sizeof *samples };
 
@@ -209,9 +257,9 @@ static void refused(const uint8_t *bundle, size_t length, uint32_t number, uint3
     EXPECT(is_refusal(used.refusal, number, row) && used.bytes == 0 && holds(&out_room, NULL, 0));
     take_back(&out_room);
 
-    lend(&out_table_room, NULL, 4 * 33, ENDS);
+    lend(&out_table_room, NULL, 4 * 35, ENDS);
     lend(&out_pool_room, NULL, 17, ENDS);
-    noemathu_sizes sizes = noemathu_read(bundle, length, (uint32_t *)out_table_room.lent, 33, out_pool_room.lent, 17);
+    noemathu_sizes sizes = noemathu_read(bundle, length, (uint32_t *)out_table_room.lent, 35, out_pool_room.lent, 17);
     EXPECT(is_refusal(sizes.refusal, number, row) && sizes.rows == 0 && sizes.bytes == 0);
     EXPECT(holds(&out_table_room, NULL, 0) && holds(&out_pool_room, NULL, 0));
     take_back(&out_table_room);
@@ -253,6 +301,8 @@ static void nothing_lent(void)
     take_back(&out_room);
     noemathu_sizes sizes = noemathu_read(bundle_none, 12, NULL, 0, NULL, 0);
     EXPECT(is_refusal(sizes.refusal, 0, 0) && sizes.rows == 0 && sizes.bytes == 0);
+    sizes = noemathu_read(old_none, 12, NULL, 0, NULL, 0);
+    EXPECT(is_refusal(sizes.refusal, 0, 0) && sizes.rows == 0 && sizes.bytes == 0);
     EXPECT(is_nothing(noemathu_uri_of_prefix(bundle_none, 12, 0, NULL, 0), 8, 0));
 
     /* An empty query, and outputs that are not there. */
@@ -283,18 +333,36 @@ static void every_length(void)
     }
 }
 
-/* Every byte of the header with every value: what it draws is told by its place. */
+/* Every byte of the header with every value: what it draws is told by its place. The other version has rows of another
+   length. */
 static void every_header_byte(void)
 {
-    for (size_t at = 0; at < 12; at++)
-        for (unsigned value = 0; value < 256; value++) {
-            uint8_t bytes[sizeof bundle_a];
-            memcpy(bytes, bundle_a, sizeof bytes);
-            bytes[at] = (uint8_t)value;
-            if (bytes[at] == bundle_a[at])
-                EXPECT(is_refusal(noemathu_check(bytes, sizeof bytes), 0, 0));
-            else
-                refused(bytes, sizeof bytes, at < 3 ? 30 : at < 5 ? 31 : 32, 0);
+    for (size_t s = 1; s < SAMPLES; s++)
+        for (size_t at = 0; at < 12; at++)
+            for (unsigned value = 0; value < 256; value++) {
+                uint8_t bytes[300];
+                size_t length = samples[s].length;
+                bool other_version = at == 3 && (value == 1 || value == 2);
+                memcpy(bytes, samples[s].bundle, length);
+                bytes[at] = (uint8_t)value;
+                if (bytes[at] == samples[s].bundle[at] || (other_version && noemathu_row_count(bytes) == 0))
+                    EXPECT(is_refusal(noemathu_check(bytes, length), 0, 0));
+                else
+                    refused(bytes, length, at < 3 ? 30 : at < 5 && !other_version ? 31 : 32, 0);
+            }
+}
+
+/* Every version: no other than 1 and 2 is read, whatever length it has. */
+static void every_version(void)
+{
+    for (size_t s = 0; s < SAMPLES; s++)
+        for (uint32_t version = 0; version < 65536; version++) {
+            uint8_t bytes[300];
+            memcpy(bytes, samples[s].bundle, samples[s].length);
+            bytes[3] = (uint8_t)version;
+            bytes[4] = (uint8_t)(version >> 8);
+            uint32_t number = version != 1 && version != 2 ? 31 : version == samples[s].bundle[3] || samples[s].length == 12 ? 0 : 32;
+            EXPECT(is_refusal(noemathu_check(bytes, samples[s].length), number, 0));
         }
 }
 
@@ -344,15 +412,17 @@ static void read_at(const struct sample *sample, struct where where, size_t word
     lend(&out_pool_room, NULL, size, where);
     noemathu_sizes sizes = noemathu_read(bundle_room.lent, sample->length, (uint32_t *)out_table_room.lent, words,
                                          size ? out_pool_room.lent : NULL, size);
-    if (words / 10 < rows || size < bytes) {
-        EXPECT(is_refusal(sizes.refusal, words / 10 < rows ? 10 : 11, 0) && sizes.rows == 0 && sizes.bytes == 0);
+    if (words / WORDS < rows || size < bytes) {
+        EXPECT(is_refusal(sizes.refusal, words / WORDS < rows ? 10 : 11, 0) && sizes.rows == 0 && sizes.bytes == 0);
         EXPECT(holds(&out_table_room, NULL, 0) && holds(&out_pool_room, NULL, 0));
     } else {
         EXPECT(is_refusal(sizes.refusal, 0, 0) && sizes.rows == rows && sizes.bytes == bytes);
         EXPECT(holds(&out_pool_room, noemathu_pool(sample->bundle), bytes));
-        EXPECT(is_zero(out_table_room.lent + 40 * rows, 4 * words - 40 * rows));
-        for (size_t i = 0; i < 10 * rows; i++)
-            EXPECT(((uint32_t *)out_table_room.lent)[i] == noemathu_word(sample->bundle, i / 10, i % 10));
+        EXPECT(is_zero(out_table_room.lent + 4 * WORDS * rows, 4 * words - 4 * WORDS * rows));
+        for (size_t i = 0; i < WORDS * rows; i++) {
+            uint32_t word = noemathu_number(sample->written + 12 + 4 * i, 4);
+            EXPECT(((uint32_t *)out_table_room.lent)[i] == word && noemathu_word(sample->bundle, i / WORDS, i % WORDS) == word);
+        }
     }
     take_back(&bundle_room);
     take_back(&out_table_room);
@@ -365,16 +435,16 @@ static void write_at(const struct sample *sample, struct where where, size_t siz
     size_t rows = noemathu_row_count(sample->bundle), bytes = noemathu_pool_length(sample->bundle);
     for (size_t i = 0; i < rows; i++)
         noemathu_put_row(table, i, noemathu_row_of(sample->bundle, i));
-    lend(&table_room, table, 40 * rows, (struct where){where.at_start, 4 * where.off});
+    lend(&table_room, table, 4 * WORDS * rows, (struct where){where.at_start, 4 * where.off});
     lend(&pool_room, noemathu_pool(sample->bundle), bytes, where);
     lend(&out_room, NULL, size, where);
-    noemathu_used used = noemathu_write((uint32_t *)table_room.lent, 10 * rows, pool_room.lent, bytes,
+    noemathu_used used = noemathu_write((uint32_t *)table_room.lent, WORDS * rows, pool_room.lent, bytes,
                                         size ? out_room.lent : NULL, size);
-    if (size < sample->length) {
+    if (size < sample->written_length) {
         EXPECT(is_refusal(used.refusal, 33, 0) && used.bytes == 0 && holds(&out_room, NULL, 0));
     } else {
-        EXPECT(is_refusal(used.refusal, 0, 0) && used.bytes == sample->length);
-        EXPECT(holds(&out_room, sample->bundle, sample->length));
+        EXPECT(is_refusal(used.refusal, 0, 0) && used.bytes == sample->written_length);
+        EXPECT(holds(&out_room, sample->written, sample->written_length));
     }
     take_back(&table_room);
     take_back(&pool_room);
@@ -409,13 +479,13 @@ static void every_output_size(void)
                 made_at(noemathu_normalize, sample, sample->result, sample->result_length, where, size);
             for (size_t size = 0; size < sample->packed_length + 45; size++)
                 made_at(noemathu_pack, sample, sample->packed, sample->packed_length, where, size);
-            for (size_t size = 0; size < sample->length + 45; size++)
+            for (size_t size = 0; size < sample->written_length + 45; size++)
                 write_at(sample, where, size);
-            for (size_t size = 0; size < sample->length + 45; size++) /* what passes comes back */
-                salvage_at(sample->bundle, sample->length, where, size, size % 4, sample->bundle, sample->length, NULL, 0);
+            for (size_t size = 0; size < sample->written_length + 45; size++) /* what passes comes back */
+                salvage_at(sample->bundle, sample->length, where, size, size % 4, sample->written, sample->written_length, NULL, 0);
             for (size_t size = 0; size < strlen(sample->text) + 45; size++)
                 write_xml_at(sample, where, size);
-            for (size_t words = 0; words < 10 * noemathu_row_count(sample->bundle) + 12; words++)
+            for (size_t words = 0; words < WORDS * noemathu_row_count(sample->bundle) + 13; words++)
                 for (size_t size = 0; size < noemathu_pool_length(sample->bundle) + 3; size++)
                     read_at(sample, where, words, size);
         }
@@ -468,10 +538,11 @@ static void every_question(void)
 /* Inputs may overlap: a table whose pool is its own bytes, a bundle that is its own query. */
 static void overlapping_inputs(void)
 {
-    uint32_t table[10] = {3, NOEMATHU_NONE, 0, 0, 0, 0, 0, 0, 8, 8};
-    uint8_t out[12 + 40 + 40];
-    noemathu_used used = noemathu_write(table, 10, (const uint8_t *)table, sizeof table, out, sizeof out);
-    EXPECT(is_refusal(used.refusal, 0, 0) && used.bytes == sizeof out && memcmp(out + 52, table, 40) == 0);
+    uint32_t table[WORDS] = {3, NOEMATHU_NONE, 0, 0, 0, 0, 0, 0, 8, 8, 1};
+    uint8_t out[NOEMATHU_BUNDLE_BYTES(1, sizeof table)];
+    noemathu_used used = noemathu_write(table, WORDS, (const uint8_t *)table, sizeof table, out, sizeof out);
+    EXPECT(is_refusal(used.refusal, 0, 0) && used.bytes == sizeof out);
+    EXPECT(memcmp(out + NOEMATHU_BUNDLE_BYTES(1, 0), table, sizeof table) == 0);
     EXPECT(is_nothing(noemathu_uri_of_prefix(bundle_a, sizeof bundle_a, 0, bundle_a, sizeof bundle_a), 0, 0));
     EXPECT(is_nothing(noemathu_in_scope_prefix(bundle_a, sizeof bundle_a, 0, bundle_a, sizeof bundle_a), 0, 0));
 }
@@ -479,40 +550,54 @@ static void overlapping_inputs(void)
 /* Words that are no whole rows; a row with something wrong in it. */
 static void refused_tables(void)
 {
-    const uint32_t row[10] = {1, NOEMATHU_NONE, 0, 0, 0, 1, 1, 1, 0, 0};
-    uint32_t table[20] = {0};
+    const uint32_t row[WORDS] = {1, NOEMATHU_NONE, 0, 0, 0, 1, 1, 1, 0, 0, NOEMATHU_NONE};
+    uint32_t table[2 * WORDS] = {0};
     uint8_t out[300];
     memcpy(table, row, sizeof row);
-    for (size_t words = 0; words <= 20; words++) {
-        uint32_t number = words % 10 ? 1 : words == 20 ? 2 : 0;
+    for (size_t words = 0; words <= 2 * WORDS; words++) {
+        uint32_t number = words % WORDS ? 1 : words == 2 * WORDS ? 2 : 0;
         noemathu_used used;
         memset(out, PATTERN, sizeof out);
         used = noemathu_write(table, words, (const uint8_t *)"aU", 2, out, sizeof out);
-        EXPECT(is_refusal(used.refusal, number, words == 20) && used.bytes == (number ? 0 : 12 + 4 * words + 2));
+        EXPECT(is_refusal(used.refusal, number, words == 2 * WORDS) && used.bytes == (number ? 0 : 12 + 4 * words + 2));
         EXPECT(is_zero(out + used.bytes, sizeof out - used.bytes));
     }
     for (size_t bytes = 0; bytes <= 2; bytes++)
-        EXPECT(is_field_refusal(noemathu_write(row, 10, (const uint8_t *)"aU", bytes, out, sizeof out).refusal, bytes < 2 ? 3 : 0,
+        EXPECT(is_field_refusal(noemathu_write(row, WORDS, (const uint8_t *)"aU", bytes, out, sizeof out).refusal, bytes < 2 ? 3 : 0,
                                 0, bytes == 0 ? 4 : bytes == 1 ? 6 : 0));
 }
 
 /* ---- which field: a table of an element and one more row */
 
-/* What every call says of the table and pool, each lent with its end at the page behind. */
-static void expect_judged(const uint32_t *table, const uint8_t *pool, size_t bytes, uint32_t number, uint32_t word)
+static void set_number(uint8_t *bytes, size_t count, size_t number)
 {
-    uint8_t bundle[NOEMATHU_BUNDLE_BYTES(2, 100)] = "NTB\1\0\0\2\0", out[400];
-    uint32_t out_table[20];
-    size_t length = NOEMATHU_BUNDLE_BYTES(2, bytes);
-    uint32_t row = number != 0;
+    for (size_t k = 0; k < count; k++)
+        bytes[k] = (uint8_t)(number >> 8 * k);
+}
+
+/* A table and its pool as a bundle of a version, whatever the check says of it; answers its length. Version 1 has no makers. */
+static size_t put_bundle(uint8_t *bundle, uint32_t version, const uint32_t *table, size_t rows, const uint8_t *pool, size_t bytes)
+{
+    size_t words = version == 1 ? 10 : 11, at = 12;
+    memcpy(bundle, "NTB", 3);
+    set_number(bundle + 3, 3, version);
+    set_number(bundle + 6, 2, rows);
+    set_number(bundle + 8, 4, bytes);
+    for (size_t i = 0; i < rows; i++)
+        for (size_t word = 0; word < words; word++, at += 4)
+            set_number(bundle + at, 4, table[WORDS * i + word]);
+    memcpy(bundle + at, pool, bytes);
+    return at + bytes;
+}
+
+/* What every call says of a bundle of two rows, which is lent with its end at the page behind; salvage, where it is not refused,
+   gives it back as it is written. */
+static void expect_judged_bundle(const uint8_t *bundle, size_t length, const uint8_t *written, size_t written_length,
+                                 uint32_t number, uint32_t word)
+{
+    uint8_t out[400];
+    uint32_t out_table[2 * WORDS], row = number != 0;
     noemathu_used used;
-    bundle[8] = (uint8_t)bytes;
-    for (size_t i = 0; i < 80; i++)
-        bundle[12 + i] = (uint8_t)(table[i / 4] >> 8 * (i % 4));
-    memcpy(bundle + 92, pool, bytes);
-    lend(&pool_room, pool, bytes, ENDS);
-    EXPECT(is_field_refusal(noemathu_write(table, 20, pool_room.lent, bytes, out, sizeof out).refusal, number, row, word));
-    take_back(&pool_room);
     lend(&bundle_room, bundle, length, ENDS);
     EXPECT(is_field_refusal(noemathu_check(bundle_room.lent, length), number, row, word));
     EXPECT(is_field_refusal(noemathu_uri_of_prefix(bundle_room.lent, length, 0, NULL, 0).refusal, number, row, word));
@@ -526,11 +611,11 @@ static void expect_judged(const uint32_t *table, const uint8_t *pool, size_t byt
     used = noemathu_pack(bundle_room.lent, length, out, sizeof out);
     EXPECT(is_field_refusal(used.refusal, number, row, word));
     EXPECT(number ? is_zero(out, sizeof out) : is_refusal(noemathu_check(out, used.bytes), 0, 0));
-    noemathu_salvaged salvaged = noemathu_salvage(bundle_room.lent, length, out, sizeof out, out_table, 20);
+    noemathu_salvaged salvaged = noemathu_salvage(bundle_room.lent, length, out, sizeof out, out_table, 2 * WORDS);
     EXPECT(is_field_refusal(salvaged.refusal, number, row, word) && salvaged.dropped == 0);
-    EXPECT(number ? is_zero(out, sizeof out) : memcmp(out, bundle, length) == 0);
+    EXPECT(number ? is_zero(out, sizeof out) : salvaged.bytes == written_length && memcmp(out, written, written_length) == 0);
     EXPECT(is_zero((uint8_t *)out_table, sizeof out_table));
-    EXPECT(is_field_refusal(noemathu_read(bundle_room.lent, length, out_table, 20, out, sizeof out).refusal, number, row, word));
+    EXPECT(is_field_refusal(noemathu_read(bundle_room.lent, length, out_table, 2 * WORDS, out, sizeof out).refusal, number, row, word));
     /* the first element's URI is not declared; the value of the second row may be no text */
     used = noemathu_write_xml(bundle_room.lent, length, 0, out, sizeof out);
     EXPECT(number ? is_field_refusal(used.refusal, number, row, word)
@@ -539,12 +624,29 @@ static void expect_judged(const uint32_t *table, const uint8_t *pool, size_t byt
     take_back(&bundle_room);
 }
 
+/* What every call says of the table and pool, and of their bundles of both versions. The maker of the second row is any number. */
+static void expect_judged(const uint32_t *table, const uint8_t *pool, size_t bytes, uint32_t number, uint32_t word)
+{
+    uint8_t bundle[NOEMATHU_BUNDLE_BYTES(2, 100)], written[NOEMATHU_BUNDLE_BYTES(2, 100)], out[400];
+    uint32_t made[2 * WORDS];
+    memcpy(made, table, sizeof made);
+    made[2 * WORDS - 1] = (uint32_t)(bytes * UINT32_C(2654435761));
+    lend(&pool_room, pool, bytes, ENDS);
+    EXPECT(is_field_refusal(noemathu_write(made, 2 * WORDS, pool_room.lent, bytes, out, sizeof out).refusal, number, number != 0, word));
+    take_back(&pool_room);
+    size_t length = put_bundle(bundle, 2, made, 2, pool, bytes);
+    expect_judged_bundle(bundle, length, bundle, length, number, word);
+    made[2 * WORDS - 1] = 0;
+    expect_judged_bundle(bundle, put_bundle(bundle, 1, made, 2, pool, bytes), written, put_bundle(written, 2, made, 2, pool, bytes),
+                         number, word);
+}
+
 /* The second row is of this type, and some of its words are set. */
 static void expect_field(uint32_t type, const uint32_t *set, size_t pairs, uint32_t number, uint32_t word)
 {
-    uint32_t table[20] = {1, NOEMATHU_NONE, 0, 0, 0, 1, 1, 1, 0, 0, type, 0, 0, 0, 0, type == 3 ? 0 : 1, 0, 0, 0, 0};
+    uint32_t table[2 * WORDS] = {1, NOEMATHU_NONE, 0, 0, 0, 1, 1, 1, 0, 0, 0, type, 0, 0, 0, 0, type == 3 ? 0 : 1, 0, 0, 0, 0, 0};
     for (size_t i = 0; i < pairs; i++)
-        table[10 + set[2 * i]] = set[2 * i + 1];
+        table[WORDS + set[2 * i]] = set[2 * i + 1];
     expect_judged(table, (const uint8_t *)"aU", 2, number, word);
 }
 
@@ -588,12 +690,12 @@ static void expect_utf8(const uint8_t *bytes, size_t length, bool well_formed)
             for (size_t more = 0; more <= 3; more += 3) {
                 uint8_t pool[40] = "aUabcdefghi";
                 uint32_t w = words[i];
-                uint32_t table[20] = {1, NOEMATHU_NONE, 0, 0, 0, 1, 1, 1, 0, 0, 2, 0, 0, 0, 0, 1, 1, 1, 0, 0};
+                uint32_t table[2 * WORDS] = {1, NOEMATHU_NONE, 0, 0, 0, 1, 1, 1, 0, 0, 0, 2, 0, 0, 0, 0, 1, 1, 1, 0, 0, 0};
                 bool bad_name = w <= 4 && bytes[0] < 128;
                 memcpy(pool + 2 + letters, bytes, length);
                 memset(pool + 2 + letters + length, 0x80, more);
-                table[10 + w] = 2;
-                table[11 + w] = (uint32_t)(letters + length);
+                table[WORDS + w] = 2;
+                table[WORDS + 1 + w] = (uint32_t)(letters + length);
                 expect_judged(table, pool, 2 + letters + length + more, well_formed ? bad_name ? 4 : 0 : 14, well_formed ? 0 : w);
             }
 }
@@ -664,9 +766,9 @@ static void every_code_point(void)
     for (uint32_t c = 0; c < 0x110000; c++) {
         uint8_t bytes[4], out[60];
         uint32_t length = put_code_point(bytes, c);
-        const uint32_t table[10] = {3, NOEMATHU_NONE, 0, 0, 0, 0, 0, 0, 0, length};
+        const uint32_t table[WORDS] = {3, NOEMATHU_NONE, 0, 0, 0, 0, 0, 0, 0, length, c};
         bool surrogate = c >= 0xd800 && c < 0xe000;
-        EXPECT(is_field_refusal(noemathu_write(table, 10, bytes, length, out, sizeof out).refusal, surrogate ? 14 : 0, 0,
+        EXPECT(is_field_refusal(noemathu_write(table, WORDS, bytes, length, out, sizeof out).refusal, surrogate ? 14 : 0, 0,
                                 surrogate ? 8 : 0));
     }
 }
@@ -674,7 +776,7 @@ static void every_code_point(void)
 /* ---- XML text */
 
 /* A table that is made row by row, and its bundle. */
-static uint32_t made_table[100];
+static uint32_t made_table[10 * WORDS];
 static uint8_t made_pool[1000], made[NOEMATHU_BUNDLE_BYTES(10, 1000)];
 static size_t made_rows, made_held;
 
@@ -683,11 +785,11 @@ static noemathu_place put(const char *text)
     return noemathu_put_bytes(made_pool, sizeof made_pool, &made_held, text, strlen(text));
 }
 
-/* A row with a name as `prefix:local`, or less of it. */
+/* A row with a name as `prefix:local`, or less of it, and a maker of its own. */
 static void set_row(size_t at, uint32_t type, uint32_t parent, const char *name, const char *uri, const char *value)
 {
     const char *colon = strchr(name, ':');
-    noemathu_row row = {type, parent, {0, 0}, {0, 0}, {0, 0}, {0, 0}};
+    noemathu_row row = {type, parent, {0, 0}, {0, 0}, {0, 0}, {0, 0}, 100 + (uint32_t)at};
     row.local_name = put(colon ? colon + 1 : name);
     row.prefix = noemathu_put_bytes(made_pool, sizeof made_pool, &made_held, name, colon ? (size_t)(colon - name) : 0);
     row.uri = put(uri);
@@ -698,7 +800,7 @@ static void set_row(size_t at, uint32_t type, uint32_t parent, const char *name,
 
 static size_t made_bundle(void)
 {
-    noemathu_used used = noemathu_write(made_table, 10 * made_rows, made_pool, made_held, made, sizeof made);
+    noemathu_used used = noemathu_write(made_table, WORDS * made_rows, made_pool, made_held, made, sizeof made);
     EXPECT(is_refusal(used.refusal, 0, 0));
     return used.bytes;
 }
@@ -822,9 +924,11 @@ static void every_character(void)
         if (c >= 0xd800 && c < 0xe000)
             continue;
         if (c == 0 || c == 0x80 || c == 0x800 || c == 0x10000) {
-            const uint32_t table[40] = {1, NOEMATHU_NONE, 0, 0, 0, 1, 0, 0, 0, 0, 2, 0, 0, 0, 1, 1, 0, 0, value[0], value[1],
-                                        13, 0, 0, 0, 2, 1, 0, 0, value[0], value[1], 3, 0, 0, 0, 0, 0, 0, 0, value[0], value[1]};
-            EXPECT(noemathu_write(table, 40, (const uint8_t *)"abpx....x", length + 5, made, sizeof made).refusal.number == 0);
+            const uint32_t table[4 * WORDS] = {1, NOEMATHU_NONE, 0, 0, 0, 1, 0, 0, 0, 0, c,
+                                               2, 0, 0, 0, 1, 1, 0, 0, value[0], value[1], c,
+                                               13, 0, 0, 0, 2, 1, 0, 0, value[0], value[1], c,
+                                               3, 0, 0, 0, 0, 0, 0, 0, value[0], value[1], c};
+            EXPECT(noemathu_write(table, 4 * WORDS, (const uint8_t *)"abpx....x", length + 5, made, sizeof made).refusal.number == 0);
         }
         memcpy(made + NOEMATHU_BUNDLE_BYTES(4, 4), bytes, length);
         made[NOEMATHU_BUNDLE_BYTES(4, 4) + length] = 'x';
@@ -844,67 +948,82 @@ static void every_character(void)
 
 /* ---- the largest */
 
+/* A bundle of this version, which large ones are made of, and what it is as it is written. */
+static uint32_t large_version = 2;
 static uint8_t large[NOEMATHU_BUNDLE_BYTES(1200, 40000)], large_out[NOEMATHU_BUNDLE_MOST + 100];
-static uint32_t large_table[12000];
+static uint8_t large_written[NOEMATHU_BUNDLE_BYTES(1200, 40000)];
+static uint32_t large_table[1200 * WORDS];
 
-static void set_number(uint8_t *bytes, size_t count, size_t number)
+/* Where a word of a row of it stands, and a byte of its pool. */
+static uint8_t *large_word(size_t row, size_t word)
 {
-    for (size_t k = 0; k < count; k++)
-        bytes[k] = (uint8_t)(number >> 8 * k);
+    return large + 12 + (large_version == 1 ? 40 : 44) * row + 4 * word;
+}
+
+static uint8_t *large_pool(size_t at)
+{
+    return large_word(noemathu_row_count(large), 0) + at;
 }
 
 static void set_word(size_t row, size_t word, uint32_t value)
 {
-    set_number(large + NOEMATHU_BUNDLE_BYTES(row, 4 * word), 4, value);
+    set_number(large_word(row, word), 4, value);
 }
 
 /* An element `a` without a URI, and rows of a type below it, each in the one before or all in the first; and a pool of so
-   many `a`. */
+   many `a`. Where rows have makers, each has one of its own. */
 static size_t make_large(size_t rows, size_t bytes, uint32_t type, bool nested)
 {
+    static uint8_t pool[40000];
     memset(large_table, 0, sizeof large_table);
     for (size_t i = 0; i < rows; i++) {
-        large_table[10 * i] = i == 0 ? NOEMATHU_ELEMENT : type;
-        large_table[10 * i + 1] = i == 0 ? NOEMATHU_NONE : nested ? (uint32_t)i - 1 : 0;
-        large_table[10 * i + 5] = large_table[10 * i] == NOEMATHU_ELEMENT;
+        large_table[WORDS * i] = i == 0 ? NOEMATHU_ELEMENT : type;
+        large_table[WORDS * i + 1] = i == 0 ? NOEMATHU_NONE : nested ? (uint32_t)i - 1 : 0;
+        large_table[WORDS * i + 5] = large_table[WORDS * i] == NOEMATHU_ELEMENT;
+        large_table[WORDS * i + 10] = large_version == 1 ? 0 : (uint32_t)(i * UINT32_C(2654435761));
     }
-    memcpy(large, bundle_none, 12);
-    set_number(large + 6, 2, rows);
-    set_number(large + 8, 4, bytes);
-    for (size_t i = 0; i < 10 * rows; i++)
-        set_word(0, i, large_table[i]);
-    memset(large + NOEMATHU_BUNDLE_BYTES(rows, 0), 'a', bytes);
-    return NOEMATHU_BUNDLE_BYTES(rows, bytes);
+    memset(pool, 'a', bytes);
+    return put_bundle(large, large_version, large_table, rows, pool, bytes);
+}
+
+/* The large bundle with its rows as they are now, as it is written; answers the length. */
+static size_t write_large(void)
+{
+    size_t rows = noemathu_row_count(large);
+    for (size_t i = 0; i < rows; i++)
+        for (size_t word = 0; word < WORDS; word++)
+            large_table[WORDS * i + word] = word == 10 && large_version == 1 ? 0 : noemathu_number(large_word(i, word), 4);
+    return put_bundle(large_written, 2, large_table, rows, large_pool(0), noemathu_pool_length(large));
 }
 
 static void largest(void)
 {
-    size_t length = make_large(1024, 32768, NOEMATHU_TEXT, false);
-    EXPECT(length == NOEMATHU_BUNDLE_MOST && length == 73740);
+    size_t length = make_large(1024, 32768, NOEMATHU_TEXT, false), exact = write_large();
+    EXPECT(exact == NOEMATHU_BUNDLE_MOST && exact == 77836 && length == (large_version == 1 ? 73740 : 77836));
     lend(&bundle_room, large, length, ENDS);
     EXPECT(is_refusal(noemathu_check(bundle_room.lent, length), 0, 0));
     EXPECT(is_nothing(noemathu_uri_of_prefix(bundle_room.lent, length, 1023, NULL, 0), 0, 0));
-    lend(&out_room, NULL, length, ENDS);
-    noemathu_used used = noemathu_normalize(bundle_room.lent, length, out_room.lent, length);
-    EXPECT(is_refusal(used.refusal, 0, 0) && used.bytes == length && holds(&out_room, large, length));
-    used = noemathu_normalize(bundle_room.lent, length, out_room.lent, length - 1);
-    EXPECT(is_refusal(used.refusal, 33, 0) && used.bytes == 0 && is_zero(out_room.lent, length - 1));
+    lend(&out_room, NULL, exact, ENDS);
+    noemathu_used used = noemathu_normalize(bundle_room.lent, length, out_room.lent, exact);
+    EXPECT(is_refusal(used.refusal, 0, 0) && used.bytes == exact && holds(&out_room, large_written, exact));
+    used = noemathu_normalize(bundle_room.lent, length, out_room.lent, exact - 1);
+    EXPECT(is_refusal(used.refusal, 33, 0) && used.bytes == 0 && is_zero(out_room.lent, exact - 1));
     take_back(&out_room);
     take_back(&bundle_room);
 
-    lend(&table_room, large_table, 40 * 1024, ENDS);
-    lend(&pool_room, large + 12 + 40 * 1024, 32768, ENDS);
-    lend(&out_room, NULL, length, ENDS);
-    used = noemathu_write((uint32_t *)table_room.lent, 10240, pool_room.lent, 32768, out_room.lent, length);
-    EXPECT(is_refusal(used.refusal, 0, 0) && used.bytes == length && holds(&out_room, large, length));
+    lend(&table_room, large_table, 4 * NOEMATHU_MOST_WORDS, ENDS);
+    lend(&pool_room, large_pool(0), 32768, ENDS);
+    lend(&out_room, NULL, exact, ENDS);
+    used = noemathu_write((uint32_t *)table_room.lent, 11264, pool_room.lent, 32768, out_room.lent, exact);
+    EXPECT(is_refusal(used.refusal, 0, 0) && used.bytes == exact && holds(&out_room, large_written, exact));
     take_back(&table_room);
     take_back(&pool_room);
     take_back(&out_room);
 
     refused_everywhere(large, make_large(1025, 0, NOEMATHU_TEXT, false), 1, 0);
     refused_everywhere(large, make_large(1, 32769, NOEMATHU_TEXT, false), 1, 0);
-    EXPECT(is_refusal(noemathu_write(large_table, 10250, NULL, 0, large_out, sizeof large_out).refusal, 1, 0));
-    EXPECT(is_refusal(noemathu_write(large_table, 10, large, 32769, large_out, sizeof large_out).refusal, 1, 0));
+    EXPECT(is_refusal(noemathu_write(large_table, 11275, NULL, 0, large_out, sizeof large_out).refusal, 1, 0));
+    EXPECT(is_refusal(noemathu_write(large_table, WORDS, large, 32769, large_out, sizeof large_out).refusal, 1, 0));
 }
 
 /* The longest text: a pool of `a` and quotes, which is every value and URI, and as many attributes and declarations as can be
@@ -914,7 +1033,7 @@ static void longest_text(void)
 {
     static const char *const tags[] = {" xmlns:a=\"", "\" xmlns=\"", "\" a=\"", "\" a:a=\""};
     size_t length = make_large(1024, 32768, NOEMATHU_TEXT, false), exact = NOEMATHU_XML_MOST;
-    memset(large + NOEMATHU_BUNDLE_BYTES(1024, 1), '"', 32767);
+    memset(large_pool(1), '"', 32767);
     for (size_t i = 0; i < 1024; i++) {
         if (i == 1 || i == 2)
             set_word(i, 0, NOEMATHU_DECLARATION);
@@ -957,7 +1076,7 @@ static void shared_values(void)
     static const char bytes[] = "a&b<c>d\"e\rf\ng\th....";
     size_t length = make_large(1024, 32768, NOEMATHU_TEXT, false);
     for (size_t k = 1; k < 32768; k++)
-        large[NOEMATHU_BUNDLE_BYTES(1024, k)] = (uint8_t)bytes[k * k / 7 % (sizeof bytes - 1)];
+        *large_pool(k) = (uint8_t)bytes[k * k / 7 % (sizeof bytes - 1)];
     for (size_t i = 1; i < 1024; i++) {
         set_word(i, 8, (uint32_t)(i * i * 31 % 30000));
         set_word(i, 9, (uint32_t)(1 + i * 29 % (i % 3 ? 150 : 2700)));
@@ -1027,7 +1146,8 @@ static size_t pack_slowly(void)
 {
     size_t rows = noemathu_row_count(large), held = 0, entries = 0;
     uint8_t *pool = slowly + NOEMATHU_BUNDLE_BYTES(rows, 0);
-    memcpy(slowly, large, NOEMATHU_BUNDLE_BYTES(rows, 0));
+    write_large();
+    memcpy(slowly, large_written, NOEMATHU_BUNDLE_BYTES(rows, 0));
     for (size_t i = 0; i < rows; i++)
         for (size_t word = 2; word < 10; word += 2) {
             noemathu_place place = {noemathu_word(large, i, word), noemathu_word(large, i, word + 1)};
@@ -1076,7 +1196,7 @@ static size_t make_fields(size_t rows, size_t bytes, size_t letters, noemathu_pl
     size_t length = make_large(rows, bytes, NOEMATHU_ATTRIBUTE, false), number = 1;
     for (size_t k = 0; k < bytes; k++) {
         number = (number * 1103515245 + 12345) % 2147483648;
-        large[NOEMATHU_BUNDLE_BYTES(rows, k)] = (uint8_t)('a' + number / 65536 % letters);
+        *large_pool(k) = (uint8_t)('a' + number / 65536 % letters);
     }
     for (size_t i = 0; i < 4 * rows; i++) {
         set_word(i / 4, 0, NOEMATHU_ATTRIBUTE);
@@ -1133,9 +1253,9 @@ static void packing(void)
     EXPECT(memcmp(noemathu_pool(out), "ab:cdcdd", 8) == 0 && is_zero(out + used.bytes, sizeof out - used.bytes));
     static const uint32_t places[4][4] = {{0, 0, 0, 0}, {0, 5, 0, 7}, {0, 5, 7, 0}, {0, 0, 0, 0}};
     for (size_t i = 0; i < 4; i++)
-        for (size_t word = 0; word < 10; word++)
+        for (size_t word = 0; word < WORDS; word++)
             EXPECT(noemathu_word(out, i, word) ==
-                   (word % 2 || word == 0 ? noemathu_word(made, i, word) : places[i][word / 2 - 1]));
+                   (word % 2 || word == 0 || word == 10 ? noemathu_word(made, i, word) : places[i][word / 2 - 1]));
 }
 
 /* ---- salvage */
@@ -1143,28 +1263,24 @@ static void packing(void)
 /* The bundle of the made table, whatever the check says of it. */
 static size_t unchecked_bundle(uint8_t *bytes)
 {
-    memcpy(bytes, bundle_none, 12);
-    set_number(bytes + 6, 2, made_rows);
-    set_number(bytes + 8, 4, made_held);
-    for (size_t i = 0; i < 10 * made_rows; i++)
-        set_number(bytes + NOEMATHU_BUNDLE_BYTES(0, 4 * i), 4, made_table[i]);
-    memcpy(bytes + NOEMATHU_BUNDLE_BYTES(made_rows, 0), made_pool, made_held);
-    return NOEMATHU_BUNDLE_BYTES(made_rows, made_held);
+    return put_bundle(bytes, 2, made_table, made_rows, made_pool, made_held);
 }
 
 /* The made table, without the listed rows and with these parents, is what salvage gives, for every size of both outputs around
-   the exact one and at every alignment; and it passes the check. */
+   the exact one and at every alignment; and it passes the check. Of version 1 its makers are 0. */
 static void expect_salvaged(const uint32_t *list, size_t dropped, const uint32_t *parents)
 {
     static uint8_t bytes[NOEMATHU_BUNDLE_BYTES(10, 1000)], result[NOEMATHU_BUNDLE_BYTES(10, 1000)];
-    size_t length = unchecked_bundle(bytes), kept = 0;
+    for (size_t i = 0; i < made_rows && large_version == 1; i++)
+        made_table[WORDS * i + 10] = 0;
+    size_t length = put_bundle(bytes, large_version, made_table, made_rows, made_pool, made_held), kept = 0;
     for (size_t i = 0, k = 0; i < made_rows; i++) {
         if (k < dropped && list[2 * k] == i) {
             k++;
             continue;
         }
-        memmove(made_table + 10 * kept, made_table + 10 * i, 40);
-        made_table[10 * kept + 1] = parents[kept];
+        memmove(made_table + WORDS * kept, made_table + WORDS * i, 4 * WORDS);
+        made_table[WORDS * kept + 1] = parents[kept];
         kept++;
     }
     made_rows = kept;
@@ -1205,7 +1321,7 @@ static void salvage(void)
     /* a fault in each row, behind rows that are dropped or not: it refuses, and nothing is listed */
     for (size_t row = 0; row < 9; row++) {
         make_old();
-        made_table[10 * row + 9] = 1000;
+        made_table[WORDS * row + 9] = 1000;
         size_t length = unchecked_bundle(bytes);
         memset(out, PATTERN, sizeof out);
         memset(list, PATTERN, sizeof list);
@@ -1219,7 +1335,7 @@ static void salvage(void)
     set_row(0, NOEMATHU_ATTRIBUTE, NOEMATHU_NONE, "a", "", "");
     set_row(1, NOEMATHU_ATTRIBUTE, NOEMATHU_NONE, "a", "", "");
     expect_salvaged(NULL, 0, (const uint32_t[]){NOEMATHU_NONE, NOEMATHU_NONE});
-    made_table[10] = NOEMATHU_DECLARATION;
+    made_table[WORDS] = NOEMATHU_DECLARATION;
     EXPECT(is_refusal(noemathu_salvage(bytes, unchecked_bundle(bytes), out, sizeof out, list, 20).refusal, 2, 1));
 
     /* Level 1: a second attribute of the same name is dropped, one of type 2 is not */
@@ -1242,18 +1358,18 @@ static void salvage(void)
             most[2 * (i - 1) + 1] = 6 + value;
         }
         size_t exact = NOEMATHU_BUNDLE_BYTES(kept, 32768), dropped = 1024 - kept;
-        memcpy(slowly, large, NOEMATHU_BUNDLE_BYTES(kept, 0));
-        set_number(slowly + 6, 2, kept);
-        memcpy(slowly + NOEMATHU_BUNDLE_BYTES(kept, 0), noemathu_pool(large), 32768);
+        write_large();
+        put_bundle(slowly, 2, large_table, kept, noemathu_pool(large), 32768);
         for (size_t words = 2 * dropped - 1; words < 2 * dropped + 3; words++)
             for (size_t size = exact - 1; size < exact + 2; size++)
                 salvage_at(large, length, ENDS, size, words, slowly, exact, most, dropped);
         EXPECT(2 * dropped <= NOEMATHU_LIST_MOST);
     }
     /* the largest that passes comes back */
-    size_t length = make_large(1024, 32768, NOEMATHU_TEXT, false);
-    salvage_at(large, length, ENDS, length, 0, large, length, NULL, 0);
-    salvage_at(large, length, ENDS, length - 1, 0, large, length, NULL, 0);
+    size_t length = make_large(1024, 32768, NOEMATHU_TEXT, false), exact = write_large();
+    salvage_at(large, length, ENDS, exact, 0, large_written, exact, NULL, 0);
+    salvage_at(large, length, ENDS, exact - 1, 0, large_written, exact, NULL, 0);
+    EXPECT(is_refusal(noemathu_salvage(large, length, large_out, length, NULL, 0).refusal, large_version == 1 ? 33 : 0, 0));
 }
 
 /* ---- the helpers of the header */
@@ -1271,7 +1387,7 @@ static bool is_uri(const uint8_t *bundle, noemathu_found found, uint32_t kind, c
 /* The built-ins at an element that declares xml, and at a fragment, which has no start element. */
 static void built_ins(void)
 {
-    uint32_t table[30];
+    uint32_t table[3 * WORDS];
     uint8_t pool[64], bundle[NOEMATHU_BUNDLE_BYTES(3, 64)];
     size_t held = 0;
     noemathu_row row = {.type = NOEMATHU_ELEMENT, .parent = NOEMATHU_NONE};
@@ -1282,7 +1398,7 @@ static void built_ins(void)
     row.value = noemathu_put_bytes(pool, sizeof pool, &held, NOEMATHU_XML_URI, strlen(NOEMATHU_XML_URI));
     noemathu_put_row(table, 1, row);
     noemathu_put_row(table, 2, (noemathu_row){.type = NOEMATHU_FRAGMENT, .parent = NOEMATHU_NONE});
-    noemathu_used used = noemathu_write(table, 30, pool, held, bundle, sizeof bundle);
+    noemathu_used used = noemathu_write(table, 3 * WORDS, pool, held, bundle, sizeof bundle);
     EXPECT(is_refusal(used.refusal, 0, 0));
 
     const uint8_t *xml = (const uint8_t *)"xml", *xmlns = (const uint8_t *)"xmlns", *u = (const uint8_t *)"U";
@@ -1311,9 +1427,17 @@ static void helpers(void)
         for (size_t k = 0; k < i; k++)
             EXPECT(strcmp(noemathu_text(numbers[i]), noemathu_text(numbers[k])) != 0);
     for (size_t s = 0; s < SAMPLES; s++) {
-        EXPECT(NOEMATHU_BUNDLE_BYTES(noemathu_row_count(samples[s].bundle), noemathu_pool_length(samples[s].bundle)) ==
-               samples[s].length);
-        EXPECT(noemathu_room(samples[s].bundle) >= samples[s].result_length);
+        const uint8_t *bundle = samples[s].bundle;
+        size_t rows = noemathu_row_count(bundle), bytes = noemathu_pool_length(bundle);
+        EXPECT(noemathu_version(bundle) == bundle[3] && noemathu_version(samples[s].result) == NOEMATHU_BUNDLE_VERSION);
+        EXPECT(noemathu_row_bytes(bundle) == (bundle[3] == 1 ? 40 : 44));
+        EXPECT(NOEMATHU_BUNDLE_HEADER + noemathu_row_bytes(bundle) * rows + bytes == samples[s].length);
+        EXPECT(NOEMATHU_BUNDLE_BYTES(rows, bytes) == samples[s].written_length);
+        EXPECT(noemathu_pool(bundle) == bundle + samples[s].length - bytes);
+        EXPECT(noemathu_room(bundle) == NOEMATHU_BUNDLE_BYTES(2 * rows, bytes + 6 * rows));
+        EXPECT(noemathu_room(bundle) >= samples[s].result_length && noemathu_room(bundle) == noemathu_room(samples[s].written));
+        for (size_t i = 0; i < rows; i++)
+            EXPECT(noemathu_row_of(bundle, i).maker == (bundle[3] == 1 ? 0 : noemathu_number(bundle + 12 + 44 * i + 40, 4)));
         EXPECT(samples[s].no_text.number || noemathu_xml_room(samples[s].bundle) == strlen(samples[s].text));
     }
     EXPECT(noemathu_escaped_length((const uint8_t *)"&<>\"\r\t\n'a", 9, false) == 5 + 4 + 4 + 6 + 5 + 1 + 1 + 1 + 1);
@@ -1373,6 +1497,20 @@ static void proposals(void)
     proposed(&samples[2], bundle_b, sizeof bundle_b, ENDS, 44, 1);
     /* Both may be the same bytes. */
     EXPECT(is_refusal(noemathu_check_proposal(result_a, sizeof result_a, result_a, sizeof result_a), 0, 0));
+    /* Another maker, in any byte of it: in a row that is kept 43, in a further row nothing. */
+    for (size_t row = 0; row < 3; row++)
+        for (size_t at = 0; at < 4; at++) {
+            uint8_t changed[sizeof result_b];
+            memcpy(changed, result_b, sizeof changed);
+            changed[12 + 44 * row + 40 + at] ^= 1;
+            proposed(&samples[2], changed, sizeof changed, ENDS, row < 2 ? 43 : 0, row < 2 ? (uint32_t)row : 0);
+            proposed(&samples[4], changed, sizeof changed, ENDS, 43, (uint32_t)row);
+        }
+    /* The version may be another: rows of version 1 have maker 0. */
+    EXPECT(is_refusal(noemathu_check_proposal(old_a, sizeof old_a, old_result_a, sizeof old_result_a), 0, 0));
+    EXPECT(is_refusal(noemathu_check_proposal(new_a, sizeof new_a, old_result_a, sizeof old_result_a), 0, 0));
+    EXPECT(is_refusal(noemathu_check_proposal(old_a, sizeof old_a, result_a, sizeof result_a), 43, 0));
+    EXPECT(is_refusal(noemathu_check_proposal(bundle_a, sizeof bundle_a, old_result_a, sizeof old_result_a), 43, 0));
 }
 
 /* ---- the stack */
@@ -1399,10 +1537,10 @@ static void run_salvage(void)
     noemathu_salvage(large, large_length, large_out, sizeof large_out, list, NOEMATHU_LIST_MOST);
 }
 
-static void run_read(void) { noemathu_read(large, large_length, large_table, 12000, large_out, sizeof large_out); }
+static void run_read(void) { noemathu_read(large, large_length, large_table, 1200 * WORDS, large_out, sizeof large_out); }
 static void run_write(void)
 {
-    noemathu_write(large_table, 10 * large_rows, noemathu_pool(large), noemathu_pool_length(large), large_out, sizeof large_out);
+    noemathu_write(large_table, WORDS * large_rows, noemathu_pool(large), noemathu_pool_length(large), large_out, sizeof large_out);
 }
 
 static void run_write_xml(void) { noemathu_write_xml(large, large_length, 0, large_out, sizeof large_out); }
@@ -1513,6 +1651,7 @@ int main(void)
     nothing_lent();
     every_length();
     every_header_byte();
+    every_version();
     every_output_size();
     every_question();
     built_ins();
@@ -1524,18 +1663,20 @@ int main(void)
     refusals_of_text();
     text_of_document();
     every_character();
-    largest();
-    longest_text();
-    shared_values();
-    deepest_text();
-    beyond_the_limits();
-    packing();
-    salvage();
     helpers();
     proposals();
-    stack_as_told();
-    small_stack_as_told();
     calls_at_once();
+    for (large_version = 1; large_version <= 2; large_version++) {
+        largest();
+        longest_text();
+        shared_values();
+        deepest_text();
+        beyond_the_limits();
+        packing();
+        salvage();
+        stack_as_told();
+        small_stack_as_told();
+    }
     printf("boundary: %lu checks hold\n", checks);
     return 0;
 }

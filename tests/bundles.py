@@ -24,9 +24,10 @@ from functools import lru_cache
 
 import reading
 
-# Little-endian throughout.
+# Little-endian throughout. Version 2 is written; version 1, whose rows have no maker, is read too.
 MARK = b"NTB"
-VERSION = 1
+VERSION = 2
+ROW_WORDS = {1: 10, 2: reading.WIDTH}
 ORDER = "<"
 
 # What was found.
@@ -62,8 +63,10 @@ def mark_and_version(bytes):
     later 32."""
     if bytes.take(len(MARK), 30) != MARK:
         raise Refused(30)
-    if bytes.number("H", 31) != VERSION:
+    version = bytes.number("H", 31)
+    if version not in ROW_WORDS:
         raise Refused(31)
+    return version
 
 
 def zero_byte(bytes):
@@ -81,20 +84,27 @@ def nothing_after(bytes):
 @lru_cache(maxsize=1)
 def split(bundle):
     """The table and the pool that the bytes stand for: the mark, the version of two bytes, a zero byte, the row count of
-    two bytes, the pool length of four, the rows, the pool, and nothing after."""
+    two bytes, the pool length of four, the rows, each as long as the version has them, the pool, and nothing after."""
     bytes = Bytes(bundle)
-    mark_and_version(bytes)
+    version = mark_and_version(bytes)
     zero_byte(bytes)
     rows = bytes.number("H", 32)
     length = bytes.number("I", 32)
-    table = bytes.take(4 * reading.WIDTH * rows, 32)
+    words = bytes.take(4 * ROW_WORDS[version] * rows, 32)
     pool = bytes.take(length, 32)
     nothing_after(bytes)
-    return struct.unpack("%s%dI" % (ORDER, reading.WIDTH * rows), table), pool
+    return with_makers(struct.unpack("%s%dI" % (ORDER, ROW_WORDS[version] * rows), words), version), pool
+
+
+def with_makers(words, version):
+    """A table of the words that a version has: rows of version 1 get maker 0."""
+    if version != 1:
+        return words
+    return tuple(word for at in range(0, len(words), ROW_WORDS[1]) for word in (*words[at:at + ROW_WORDS[1]], 0))
 
 
 def join(table, pool):
-    """The bytes of a bundle."""
+    """The bytes of a bundle: the writer writes only version 2."""
     return MARK + struct.pack("%sHBHI%dI" % (ORDER, len(table)), VERSION, 0, len(table) // reading.WIDTH, len(pool),
                               *table) + pool
 

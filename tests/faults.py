@@ -267,11 +267,12 @@ def bytes_after():
 def version_before_mark():
     """31 is tried before 30."""
     def mark_and_version(bytes):
-        mark = bytes.take(len(bundles.MARK), 30)
-        if bytes.number("H", 31) != bundles.VERSION:
+        mark, version = bytes.take(len(bundles.MARK), 30), bytes.number("H", 31)
+        if version not in bundles.ROW_WORDS:
             raise bundles.Refused(31)
         if mark != bundles.MARK:
             raise bundles.Refused(30)
+        return version
     bundles.mark_and_version = mark_and_version
 
 
@@ -282,7 +283,7 @@ def cut_is_lengths():
     def mark_and_version(bytes):
         if len(bytes.all) < 5:
             raise bundles.Refused(32)
-        right(bytes)
+        return right(bytes)
     bundles.mark_and_version = mark_and_version
 
 
@@ -532,8 +533,8 @@ def element_prefix_compared():
 def ownerless_prefix_free():
     """An attribute without an owner may take another prefix."""
     reading.keeps_row = lambda row, proposed: (
-        (row.type, row.parent, row.local_name.text, row.uri.text)
-        == (proposed.type, proposed.parent, proposed.local_name.text, proposed.uri.text)
+        (row.type, row.parent, row.maker, row.local_name.text, row.uri.text)
+        == (proposed.type, proposed.parent, proposed.maker, proposed.local_name.text, proposed.uri.text)
         and (row.type == reading.DECLARATION or row.value.text == proposed.value.text))
 
 
@@ -757,6 +758,199 @@ def salvaged_pool_packed():
     reading.kept_and_dropped = kept_and_dropped
 
 
+def made_by(maker):
+    """An added declaration is by the maker that this says of its element and of the row that needed it."""
+    right = reading.append
+
+    def append(tree, element, needing, prefix, value):
+        right(tree, element, needing, prefix, value)
+        tree.rows[-1].maker = maker(element, needing)
+    reading.append = append
+
+
+def element_makes():
+    """A declaration that an attribute needed is by the element's maker."""
+    made_by(lambda element, needing: element.maker)
+
+
+def element_makes_numbered():
+    """A declaration of an `NS` prefix is by the element's maker."""
+    made_by(lambda element, needing: element.maker if needing.prefix.text.startswith(b"NS") else needing.maker)
+
+
+def attributes_alone_make():
+    """A declaration that an element needed has maker 0."""
+    made_by(lambda element, needing: 0 if needing is element else needing.maker)
+
+
+def nobody_makes():
+    """An added declaration has maker 0."""
+    made_by(lambda element, needing: 0)
+
+
+def host_makes():
+    """An added declaration is by the maker of row 0."""
+    right = reading.append
+
+    def append(tree, element, needing, prefix, value):
+        right(tree, element, needing, prefix, value)
+        tree.rows[-1].maker = tree.rows[0].maker
+    reading.append = append
+
+
+def set_declaration_taken_over():
+    """A declaration whose value is set is the element's maker's from then on."""
+    right = reading.declare
+
+    def declare(tree, element, prefix, value):
+        right(tree, element, prefix, value)
+        reading.declaration_of(tree, element, prefix.text).maker = element.maker
+    reading.declare = declare
+
+
+def attribute_taken_over():
+    """An attribute whose prefix is set is its element's maker's from then on."""
+    right = reading.repair_attribute
+
+    def repair_attribute(tree, element, attribute):
+        before = attribute.prefix
+        right(tree, element, attribute)
+        attribute.maker = attribute.maker if attribute.prefix == before else element.maker
+    reading.repair_attribute = repair_attribute
+
+
+def large_maker_refused():
+    """A maker of 2^31 or more draws 2."""
+    right = reading.wrong_structure
+    reading.wrong_structure = lambda tree, row: right(tree, row) or row.maker >= 2**31
+
+
+def other_maker_kept():
+    """A row of the original may have another maker in the proposal."""
+    right = reading.keeps_row
+
+    def keeps_row(row, proposed):
+        maker, proposed.maker = proposed.maker, row.maker
+        kept = right(row, proposed)
+        proposed.maker = maker
+        return kept
+    reading.keeps_row = keeps_row
+
+
+def declaration_maker_free():
+    """A declaration of the original, whose value may be another, may have another maker too."""
+    right = reading.keeps_row
+    reading.keeps_row = lambda row, proposed: right(row, proposed) or row.type == reading.DECLARATION == proposed.type and (
+        (row.parent, row.local_name.text) == (proposed.parent, proposed.local_name.text))
+
+
+def further_maker_compared():
+    """A further row of a proposal is by its owner's maker."""
+    right = reading.keeps
+    reading.keeps = lambda original, proposal, number: right(original, proposal, number) and (
+        number < len(original.rows) or proposal.rows[number].maker == proposal.rows[proposal.rows[number].parent].maker)
+
+
+def packed_without_makers():
+    """A packed row has maker 0."""
+    without_makers("packed_form", lambda made: made)
+
+
+def salvaged_without_makers():
+    """A kept row has maker 0, where another was dropped."""
+    without_makers("kept_and_dropped", lambda made: made[0] if made[1] else reading.Tree((), b""))
+
+
+def without_makers(name, tree_of):
+    right = getattr(reading, name)
+
+    def making(tree):
+        made = right(tree)
+        for row in tree_of(made).rows:
+            row.maker = 0
+        return made
+    setattr(reading, name, making)
+
+
+def salvaged_makers_moved():
+    """A kept row has the maker of the row that stood in its place."""
+    right = reading.kept_and_dropped
+
+    def kept_and_dropped(tree):
+        made, drops = right(tree)
+        for row in made.rows:
+            row.maker = tree.rows[row.number].maker
+        return made, drops
+    reading.kept_and_dropped = kept_and_dropped
+
+
+def old_version_refused():
+    """31 comes for version 1."""
+    bundles.ROW_WORDS = {2: reading.WIDTH}
+
+
+def any_version_read():
+    """A version after 2 is read as version 2."""
+    bundles.ROW_WORDS = {1: 10} | dict.fromkeys(range(2, 65536), reading.WIDTH)
+
+
+def old_rows_as_long():
+    """A row of version 1 takes 44 bytes."""
+    bundles.ROW_WORDS = {1: reading.WIDTH, 2: reading.WIDTH}
+    bundles.with_makers = lambda words, version: words
+
+
+def rows_as_old():
+    """A row of version 2 takes 40 bytes, and its maker is 0."""
+    right = bundles.with_makers
+    bundles.ROW_WORDS = {1: 10, 2: 10}
+    bundles.with_makers = lambda words, version: right(words, 1)
+
+
+def old_makers_first():
+    """The word that a row of version 1 lacks is its first."""
+    bundles.with_makers = lambda words, version: words if version != 1 else tuple(
+        word for at in range(0, len(words), 10) for word in (0, *words[at:at + 10]))
+
+
+def old_makers_numbered():
+    """The maker of a row of version 1 is its number."""
+    right = bundles.with_makers
+
+    def with_makers(words, version):
+        table = list(right(words, version))
+        if version == 1:
+            table[10::reading.WIDTH] = range(len(table) // reading.WIDTH)
+        return tuple(table)
+    bundles.with_makers = with_makers
+
+
+def version_kept():
+    """What was of version 1 and needs no repair comes back as it was."""
+    right = bundles.normalize
+
+    def normalize(bundle, out_size):
+        answer, same = right(bundle, out_size), right(bundle, 1 << 17)
+        table, pool = bundles.opened(bundle)
+        if bundle[3:4] == b"\1" and same[0] == 0 and same[3] == len(bundles.join(table, pool)) and len(bundle) <= out_size:
+            return (*reading.NOT_REFUSED, len(bundle), bundle + bytes(out_size - len(bundle)))
+        return answer
+    bundles.normalize = normalize
+
+
+def old_room():
+    """33 of a bundle of version 1 is judged by its own length where it is packed."""
+    right = bundles.pack
+
+    def pack(bundle, out_size):
+        answer = right(bundle, out_size)
+        rows = len(bundles.opened(bundle)[0]) // reading.WIDTH
+        if answer[0] == 33 and bundle[3:4] == b"\1" and right(bundle, out_size + 4 * rows)[0] == 0:
+            return (*reading.NOT_REFUSED, *right(bundle, out_size + 4 * rows)[3:])
+        return answer
+    bundles.pack = pack
+
+
 FAULTS = {fault.__name__: fault for fault in (
     shadowed_prefix, shadowed_own_prefix, element_by_uri_lookup, default_serves_attribute, bound_prefix_declared,
     declared_xml, xmlns_not_built_in, built_in_without_start, nothing_is_no_default, unprefixed_decides,
@@ -777,4 +971,8 @@ FAULTS = {fault.__name__: fault for fault in (
     packed_no_longer, packed_beyond_limit, level1_not_packed,
     dropped_rows_count, double_told_first, attributes_not_dropped, level1_doubles_kept, parents_not_renumbered,
     parents_moved_with_rows, list_by_new_numbers, list_room_in_words, dropped_counted_in_words, fault_behind_conflict_passed,
-    conflict_refused_before_fault, room_before_list, list_left_after_refusal, salvaged_pool_packed)}
+    conflict_refused_before_fault, room_before_list, list_left_after_refusal, salvaged_pool_packed,
+    element_makes, element_makes_numbered, attributes_alone_make, nobody_makes, host_makes, set_declaration_taken_over,
+    attribute_taken_over, large_maker_refused, other_maker_kept, declaration_maker_free, further_maker_compared,
+    packed_without_makers, salvaged_without_makers, salvaged_makers_moved, old_version_refused, any_version_read,
+    old_rows_as_long, rows_as_old, old_makers_first, old_makers_numbered, version_kept, old_room)}

@@ -4,7 +4,8 @@ the C interface.
     library = Library(path)
     library.lend(bundle, table, pool, shift)    what the following calls read, at an address that is shifted by some bytes
     library.ask(operation, *rest)               the whole answer, and every output buffer whole
-    library.xml_room()                          what noemathu_xml_room of the header says of the bundle
+    library.room(), library.xml_room()          what noemathu_room and noemathu_xml_room of the header say of the bundle
+    library.seen(words, bytes)                  its table and its pool, which have so many, as the header's helpers see them
     library.taken_back()                        after the calls: whether what was lent is unchanged
 
 Outputs are filled with a pattern before a call, and the margins around them must still hold it afterwards.
@@ -66,7 +67,15 @@ FUNCTIONS = {
 
 # The header's own functions, made callable.
 HELPERS = """#include <noemathu.h>
+size_t room(const uint8_t *bundle) { return noemathu_room(bundle); }
 size_t xml_room(const uint8_t *bundle) { return noemathu_xml_room(bundle); }
+void seen(const uint8_t *bundle, uint32_t *table, uint8_t *pool)
+{
+    for (size_t i = 0; i < noemathu_row_count(bundle); i++)
+        noemathu_put_row(table, i, noemathu_row_of(bundle, i));
+    if (noemathu_pool_length(bundle) > 0)
+        memcpy(pool, noemathu_bytes(bundle, (noemathu_place){0, 0}), noemathu_pool_length(bundle));
+}
 bool default_is(const uint8_t *bundle, noemathu_found default_uri, const uint8_t *uri, size_t uri_length)
 {
     return noemathu_default_is(bundle, default_uri, uri, uri_length);
@@ -118,8 +127,10 @@ class Library:
         subprocess.run(["cc", "-O2", "-fPIC", "-Iinclude", "-shared", "-o", shared, "-x", "c", "-", "-x", "none",
                         "-Wl,--whole-archive", str(archive), "-Wl,--no-whole-archive"], input=HELPERS, text=True, check=True)
         loaded = ctypes.CDLL(shared)
-        self.room_for_text = loaded.xml_room
-        self.room_for_text.argtypes, self.room_for_text.restype = [BYTES], SIZE
+        self.helpers = {}
+        for name, parameters in (("room", [BYTES]), ("xml_room", [BYTES]), ("seen", [BYTES] * 3)):
+            self.helpers[name] = getattr(loaded, name)
+            self.helpers[name].argtypes, self.helpers[name].restype = parameters, SIZE
         self.compare_default = loaded.default_is
         self.compare_default.argtypes, self.compare_default.restype = [BYTES, Found, ctypes.c_char_p, SIZE], ctypes.c_bool
         self.functions = {}
@@ -189,8 +200,16 @@ class Library:
         answer = self.functions[operation](*self.lent["bundle"], row, *self.rooms["out"].lend(size, self.shift))
         return (*answer.refusal.given(), answer.bytes, self.rooms["out"].taken_back("the output"))
 
+    def room(self):
+        return self.helpers["room"](self.lent["bundle"][0])
+
     def xml_room(self):
-        return self.room_for_text(self.lent["bundle"][0])
+        return self.helpers["xml_room"](self.lent["bundle"][0])
+
+    def seen(self, words, size):
+        table, pool = self.lend_words("out_table", words)[0], self.rooms["out_pool"].lend(size, self.shift)[0]
+        self.helpers["seen"](self.lent["bundle"][0], table, pool)
+        return self.words_back("out_table", "the table seen"), self.rooms["out_pool"].taken_back("the pool seen")
 
     def read(self, operation, count, size):
         table = self.lend_words("out_table", count)

@@ -1,5 +1,6 @@
 """Proposals for the bundles of a comparison: what normalization makes of them, with a pool made anew, prefixes of a maker's
 own, and faults of every kind."""
+import bundle_cases
 import bundles
 import reading
 
@@ -8,8 +9,13 @@ WIDTH = reading.WIDTH
 
 
 def written(rows, pool):
-    """The bundle of rows, each a list of ten words."""
+    """The bundle of rows, each a list of words."""
     return bundles.join([word for row in rows for word in row], pool)
+
+
+def written_old(rows, pool):
+    """The bundle of version 1 of rows, whose makers it does not have."""
+    return bundle_cases.old_bytes_of([word for row in rows for word in row], pool)
 
 
 def anew(rows, pool, once):
@@ -45,13 +51,17 @@ def renamed(rows, pool):
 def changed(rows, pool, numbers):
     """One word of one row, or the rows, are changed."""
     rows = [list(row) for row in rows]
-    what = numbers(8)
+    what = numbers(10)
     if what == 0 and rows:
         rows.pop()
     elif what == 1 and rows:
-        rows.append([13, numbers(len(rows)), 0, 0, 0, min(1, len(pool)), 0, 0, 0, min(1, len(pool))])
+        rows.append([13, numbers(len(rows)), 0, 0, 0, min(1, len(pool)), 0, 0, 0, min(1, len(pool)), numbers(3)])
     elif what == 2:
-        rows.append([3, NONE, 0, 0, 0, 0, 0, 0, 0, 0])
+        rows.append([3, NONE, 0, 0, 0, 0, 0, 0, 0, 0, 0])
+    elif what in (8, 9) and rows:
+        # Another maker: of the last row, which is often further than the original's, or of any.
+        row = rows[-1 if what == 8 else numbers(len(rows))]
+        row[10] = (0, 1, row[10] ^ 1, row[10] ^ 1 << 31)[numbers(4)]
     elif what == 3 and rows:
         rows[numbers(len(rows))][0] = (1, 2, 3, 13, 257, 258)[numbers(6)]
     elif what == 4 and len(rows) > 1:
@@ -79,6 +89,7 @@ def proposals(bundle, normalized, numbers):
             continue
         rows = [list(table[at:at + WIDTH]) for at in range(0, len(table), WIDTH)]
         yield start
+        yield written_old(rows, pool)
         for made in (anew(rows, pool, False), anew(rows, pool, True), renamed(rows, pool)):
             yield written(*made)
             yield written(*changed(*made, numbers))

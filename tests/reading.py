@@ -25,7 +25,7 @@ from typing import NamedTuple
 
 # The node table.
 
-WIDTH = 10
+WIDTH = 11
 MOST_ROWS = 1024
 MOST_BYTES = 32768
 NONE = 4294967295
@@ -82,7 +82,7 @@ EMPTY = Field(0, 0, b"")
 
 
 class Row:
-    def __init__(self, number, type, parent, prefix, local_name, uri, value):
+    def __init__(self, number, type, parent, prefix, local_name, uri, value, maker):
         self.number = number
         self.type = type
         self.parent = parent
@@ -90,6 +90,7 @@ class Row:
         self.local_name = local_name
         self.uri = uri
         self.value = value
+        self.maker = maker
 
     def fields(self):
         return self.prefix, self.local_name, self.uri, self.value
@@ -102,7 +103,7 @@ class Row:
         words = [self.type, self.parent]
         for field in self.fields():
             words += [field.offset, field.length]
-        return words
+        return words + [self.maker]
 
 
 class Tree:
@@ -111,10 +112,10 @@ class Tree:
     def __init__(self, table, pool):
         self.rows, self.under, self.pool = [], {}, pool
         for at in range(0, len(table), WIDTH):
-            type, parent, *places = table[at:at + WIDTH]
+            type, parent, *places, maker = table[at:at + WIDTH]
             fields = [Field(offset, length, pool[offset:offset + length])
                       for offset, length in zip(places[::2], places[1::2])]
-            self.add(Row(len(self.rows), type, parent, *fields))
+            self.add(Row(len(self.rows), type, parent, *fields, maker))
 
     def add(self, row):
         self.rows.append(row)
@@ -144,7 +145,7 @@ NOT_REFUSED = Refusal(0)
 
 
 def wrong_size(table, pool):
-    """1: word count not a multiple of 10 or above 10,240, or pool above 32,768."""
+    """1: word count not a multiple of 11 or above 11,264, or pool above 32,768."""
     return len(table) % WIDTH != 0 or len(table) > WIDTH * MOST_ROWS or len(pool) > MOST_BYTES
 
 
@@ -341,10 +342,10 @@ def keeps(original, proposal, number):
 
 
 def keeps_row(row, proposed):
-    """The original rows keep type, parent, and the bytes of local name, URI and value, save that a declaration's value may
-    differ; ownerless attributes keep their prefix."""
-    return ((row.type, row.parent, row.local_name.text, row.uri.text)
-            == (proposed.type, proposed.parent, proposed.local_name.text, proposed.uri.text)
+    """The original rows keep type, parent, maker, and the bytes of local name, URI and value, save that a declaration's value
+    may differ; ownerless attributes keep their prefix."""
+    return ((row.type, row.parent, row.maker, row.local_name.text, row.uri.text)
+            == (proposed.type, proposed.parent, proposed.maker, proposed.local_name.text, proposed.uri.text)
             and (row.type == DECLARATION or row.value.text == proposed.value.text)
             and (row.type != ATTRIBUTE or row.parent != NONE or row.prefix.text == proposed.prefix.text))
 
@@ -613,17 +614,18 @@ def repair_element(tree, element):
 
 
 def declare(tree, element, prefix, value):
-    """Set its own declaration of that prefix, or append one."""
+    """Set its own declaration of that prefix, or append one, which the element needs."""
     declaration = declaration_of(tree, element, prefix.text)
     if declaration is not None:
         declaration.value = value
     else:
-        append(tree, element, prefix, value)
+        append(tree, element, element, prefix, value)
 
 
-def append(tree, element, prefix, value):
-    """New rows go at the end, type 13, parent the element, prefix and URI fields 0. References are copied."""
-    tree.add(Row(len(tree.rows), DECLARATION, element.number, EMPTY, prefix, EMPTY, value))
+def append(tree, element, needing, prefix, value):
+    """New rows go at the end, type 13, parent the element, prefix and URI fields 0, maker that of the row that needed it.
+    References are copied."""
+    tree.add(Row(len(tree.rows), DECLARATION, element.number, EMPTY, prefix, EMPTY, value, needing.maker))
 
 
 def repair_attribute(tree, element, attribute):
@@ -639,10 +641,10 @@ def repair_attribute(tree, element, attribute):
     elif found != NOTHING:
         attribute.prefix = in_pool(tree, found.field.text)
     elif prefix.text != b"" and scope_uri(tree, element, prefix.text) == NOTHING:
-        append(tree, element, prefix, uri)
+        append(tree, element, attribute, prefix, uri)
     else:
         attribute.prefix = in_pool(tree, free_prefix(tree, element))
-        append(tree, element, attribute.prefix, uri)
+        append(tree, element, attribute, attribute.prefix, uri)
 
 
 def free_prefix(tree, element):
@@ -682,7 +684,7 @@ def packed_form(tree):
             entries[entry_of(word, field)] = new_entry(made, field.text)
     for row in tree.rows:
         fields = [entries[entry_of(word, field)] if field.text else empty_field(made) for word, field in row.worded()]
-        made.add(Row(row.number, row.type, row.parent, *fields))
+        made.add(Row(row.number, row.type, row.parent, *fields, row.maker))
     return made
 
 
@@ -750,7 +752,7 @@ def kept_and_dropped(tree):
         if number == 0:
             held.setdefault(row.parent, []).append(row)
             kept[row.number] = len(made.rows)
-            made.add(Row(len(made.rows), row.type, new_parent(row, kept), *row.fields()))
+            made.add(Row(len(made.rows), row.type, new_parent(row, kept), *row.fields(), row.maker))
         else:
             drops.append((dropped_row(row, made), number))
     return made, drops

@@ -52,6 +52,10 @@ enum status for_each_file(const struct options *options,
 void append_node(struct buffer *line, const struct tree *tree, uint32_t row);
 void json_node(struct buffer *line, const struct tree *tree, uint32_t row);
 
+/* Behind a line, if a row's maker is not 0: who that is, behind some text, and as a member. */
+void append_maker(struct buffer *line, const char *before, noemathu_row row);
+void json_maker(struct buffer *line, noemathu_row row);
+
 /* Behind a line: a path, and before it the file and # if there are several. */
 void append_file_path(struct buffer *line, const struct options *options, const struct session *session, uint32_t row);
 

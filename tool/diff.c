@@ -1,5 +1,5 @@
 /* diff: two trees by expanded names. Prefixes, declarations and the order of attributes do not count, and adjoining texts
-   and CDATA sections are one text. */
+   and CDATA sections are one text. Makers count if that is wished: then adjoining texts are one where they are by one maker. */
 #include "commands.h"
 #include "escape.h"
 #include "json.h"
@@ -14,7 +14,7 @@
 /* One of the two trees. Nodes are equal if their numbers are. */
 struct side {
     const struct session *session;
-    bool as_read;
+    bool as_read, makers;
     noemathu_place *numbers; /* of each row with all that it holds */
     noemathu_place *names;   /* of each row's type and name */
 };
@@ -67,6 +67,21 @@ static bool is_same_number(noemathu_place one, noemathu_place other)
     return one.offset == other.offset && one.length == other.length;
 }
 
+/* Behind some bytes, a row's maker, if makers count. */
+static void append_maker_part(struct buffer *whole, const struct side *side, uint32_t row)
+{
+    uint32_t maker = side->session->tree.rows[row].maker;
+    if (side->makers)
+        append_part(whole, (struct bytes){(const uint8_t *)&maker, sizeof maker});
+}
+
+/* Whether a text is joined to the one before it, which is another row. */
+static bool is_joined(const struct side *side, uint32_t row, uint32_t before)
+{
+    const struct tree *tree = &side->session->tree;
+    return !side->makers || tree->rows[row].maker == tree->rows[before].maker;
+}
+
 /* Gives the last item, which is a text, its number, if a text was joined. */
 static void end_text(struct nodes *shared, struct items *items, struct buffer *text)
 {
@@ -85,12 +100,14 @@ static struct items items_under(struct nodes *shared, const struct side *side, u
         bool characters = is_characters(tree->rows[i]), owned = is_owned(tree->rows[i]) && row != NOEMATHU_NONE;
         if (owned || (characters && tree->rows[i].value.length == 0))
             continue;
-        if (!characters)
+        if (!characters || (text.length > 0 && !is_joined(side, i, items.at[items.count - 1].row)))
             end_text(shared, &items, &text);
         if (!characters || text.length == 0)
             items.at[items.count++] = (struct item){i, characters ? (noemathu_place){0, 0} : side->numbers[i]};
-        if (characters && text.length == 0)
+        if (characters && text.length == 0) {
             append_text(&text, "text ");
+            append_maker_part(&text, side, i);
+        }
         if (characters)
             append(&text, field_of(tree, tree->rows[i].value));
     }
@@ -119,6 +136,7 @@ static noemathu_place number_of(struct nodes *shared, const struct side *side, u
     qsort(attributes, count, sizeof *attributes, compare_places);
     append_part(&whole, (struct bytes){(const uint8_t *)(side->names + row), sizeof *side->names});
     append_part(&whole, field_of(tree, tree->rows[row].value));
+    append_maker_part(&whole, side, row);
     for (size_t i = 0; i < count; i++)
         append_part(&whole, (struct bytes){(const uint8_t *)(attributes + i), sizeof *attributes});
     append_text(&whole, "|");
@@ -154,13 +172,14 @@ static unsigned likeness(const struct side *sides, struct item one, struct item 
 }
 
 /* A text with those that adjoin it. */
-static struct buffer joined_text(const struct tree *tree, uint32_t row)
+static struct buffer joined_text(const struct side *side, uint32_t row)
 {
     struct buffer text = {0};
+    const struct tree *tree = &side->session->tree;
     for (uint32_t i = row; i != NOEMATHU_NONE; i = next_under(tree, i)) {
         if (is_owned(tree->rows[i]))
             continue;
-        if (!is_characters(tree->rows[i]))
+        if (!is_characters(tree->rows[i]) || !is_joined(side, i, row))
             break;
         append(&text, field_of(tree, tree->rows[i].value));
     }
@@ -173,7 +192,7 @@ static void print_only(const struct options *options, const struct side *sides, 
     struct buffer line = {0}, text = {0};
     const struct tree *tree = &sides[which].session->tree;
     if (is_characters(tree->rows[row]))
-        text = joined_text(tree, row);
+        text = joined_text(&sides[which], row);
     if (has_option(options, OPTION_JSON)) {
         json_begin(&line);
         json_text(&line, "only", which == 0 ? "first" : "second");
@@ -186,10 +205,12 @@ static void print_only(const struct options *options, const struct side *sides, 
         append_text(&line, which == 0 ? "- " : "+ ");
         append_path(&line, tree, row);
         append_text(&line, "\t");
-        if (text.length > 0)
+        if (text.length > 0) {
             append_quoted(&line, buffer_bytes(&text));
-        else
+            append_maker(&line, "   ", tree->rows[row]);
+        } else {
             append_node(&line, tree, row);
+        }
     }
     print_line(&line, '\n');
     free_buffer(&line);
@@ -218,11 +239,22 @@ static bool print_attributes(const struct options *options, const struct side *s
 static bool print_items(const struct options *options, struct nodes *shared, const struct side *sides, struct items one,
                         struct items other);
 
+/* The elements themselves, of one name, where their makers count and differ. */
+static bool print_makers(const struct options *options, const struct side *sides, uint32_t first, uint32_t second)
+{
+    if (!sides[0].makers || sides[0].session->tree.rows[first].maker == sides[1].session->tree.rows[second].maker)
+        return false;
+    print_only(options, sides, 0, first);
+    print_only(options, sides, 1, second);
+    return true;
+}
+
 /* What differs in two elements of one name. */
 static bool print_inside(const struct options *options, struct nodes *shared, const struct side *sides, uint32_t first,
                          uint32_t second)
 {
-    bool differ = print_attributes(options, sides, first, second);
+    bool differ = print_makers(options, sides, first, second);
+    differ |= print_attributes(options, sides, first, second);
     struct items one = items_under(shared, &sides[0], first), other = items_under(shared, &sides[1], second);
     differ |= print_items(options, shared, sides, one, other);
     free(one.at);
@@ -298,8 +330,8 @@ static struct items top_items(struct nodes *shared, const struct side *side)
 static enum status compare(const struct options *options, const struct session *sessions)
 {
     struct nodes shared = {0};
-    bool as_read = has_option(options, OPTION_AS_READ);
-    struct side sides[2] = {{&sessions[0], as_read, NULL, NULL}, {&sessions[1], as_read, NULL, NULL}};
+    bool as_read = has_option(options, OPTION_AS_READ), makers = has_option(options, OPTION_MAKERS);
+    struct side sides[2] = {{&sessions[0], as_read, makers, NULL, NULL}, {&sessions[1], as_read, makers, NULL, NULL}};
     struct items items[2];
     for (unsigned which = 0; which < 2; which++) {
         number_rows(&shared, &sides[which]);

@@ -45,6 +45,7 @@ static void print_name(const struct options *options, const struct session *sess
             append_expanded(&line, meaning.read.uri, meaning.read.local_name);
         else
             append_reading(&line, &session->tree, row, meaning);
+        append_maker(&line, "\t", session->tree.rows[row]);
     }
     print_line(&line, has_option(options, OPTION_ZERO) ? '\0' : '\n');
     free_buffer(&line);

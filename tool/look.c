@@ -47,12 +47,15 @@ static enum status print_accepted(const struct options *options, const struct se
 {
     struct buffer line = {0};
     size_t rows = noemathu_row_count(session->bundle.at), bytes = noemathu_pool_length(session->bundle.at);
+    bool is_old = noemathu_version(session->bundle.at) != NOEMATHU_BUNDLE_VERSION;
     if (has_option(options, OPTION_JSON)) {
         json_begin(&line);
         json_text(&line, "file", session->file);
         json_number(&line, "refusal", NOEMATHU_NOT_REFUSED);
         json_number(&line, "rows", rows);
         json_number(&line, "pool_bytes", bytes);
+        if (is_old)
+            json_number(&line, "version", 1);
         json_close(&line);
     } else {
         append_shown(&line, text_bytes(session->file));
@@ -61,6 +64,7 @@ static enum status print_accepted(const struct options *options, const struct se
         append_text(&line, rows == 1 ? " row, " : " rows, ");
         append_number(&line, bytes);
         append_text(&line, bytes == 1 ? " pool byte" : " pool bytes");
+        append_text(&line, is_old ? ", of version 1" : "");
     }
     print_line(&line, '\n');
     free_buffer(&line);

@@ -68,7 +68,7 @@ noemathu_row row_of(const struct nodes *nodes, size_t row)
 {
     const uint32_t *words = nodes->table + NOEMATHU_ROW_WORDS * row;
     return (noemathu_row){words[0], words[1], {words[2], words[3]}, {words[4], words[5]}, {words[6], words[7]},
-                          {words[8], words[9]}};
+                          {words[8], words[9]}, words[10]};
 }
 
 noemathu_refusal write_nodes(const struct nodes *nodes, struct buffer *bundle)

@@ -18,6 +18,8 @@ static const struct known known[] = {
     {"null", '0', NULL, OPTION_ZERO, "end each line with a zero byte"},
     {"browser", 0, NULL, OPTION_BROWSER, "by names and declarations, as browsers do"},
     {"as-read", 0, NULL, OPTION_AS_READ, "compare what a reader takes the names for"},
+    {"makers", 0, NULL, OPTION_MAKERS, "compare the makers of nodes too"},
+    {"maker", 0, "NUMBER", OPTION_MAKER, "the maker of every row; 0 if none is given"},
     {"bare", 0, NULL, OPTION_BARE, "without the declarations in scope there"},
     {"under", 0, "NODE", OPTION_UNDER, "the node of HOST that gets the guests"},
     {"diff", 0, NULL, OPTION_DIFF, "print the tree with what changes instead"},
@@ -42,6 +44,7 @@ static void set_option(struct options *options, const struct known *option, cons
     case OPTION_UNDER: options->under = value; break;
     case OPTION_OUTPUT: options->output = value; break;
     case OPTION_COLOR: options->color = value; break;
+    case OPTION_MAKER: options->wishes.maker = (uint32_t)strtoul(value, NULL, 10); break;
     default: break;
     }
     struct xml_wishes *wishes = &options->wishes;
@@ -83,6 +86,13 @@ static enum status wrong(const char *command, const char *text, const char *word
     return status;
 }
 
+/* Whether some text is a number that a row's maker can be. */
+static bool is_maker(const char *text)
+{
+    size_t digits = strspn(text, "0123456789");
+    return digits > 0 && digits <= 10 && text[digits] == 0 && strtoull(text, NULL, 10) <= UINT32_MAX;
+}
+
 /* Takes one option, and the word behind it if that is its value. */
 static enum status take_option(const char *command, unsigned taken, char **words, size_t count, size_t *at,
                                struct options *options)
@@ -99,6 +109,8 @@ static enum status take_option(const char *command, unsigned taken, char **words
         return wrong(command, ": this option has no value: ", word);
     if (option->option == OPTION_COLOR && strcmp(value, "always") && strcmp(value, "never") && strcmp(value, "auto"))
         return wrong(command, ": --color is always, never or auto, not ", value);
+    if (option->option == OPTION_MAKER && !is_maker(value))
+        return wrong(command, ": a maker is a number from 0 to 4294967295, not ", value);
     set_option(options, option, value);
     return STATUS_DONE;
 }

@@ -18,7 +18,9 @@ enum option {
     OPTION_READING = 1 << 9, /* --no-comments and the like, where XML is read */
     OPTION_JSON = 1 << 10,
     OPTION_HELP = 1 << 11,
-    OPTION_LIST = 1 << 12
+    OPTION_LIST = 1 << 12,
+    OPTION_MAKER = 1 << 13,
+    OPTION_MAKERS = 1 << 14
 };
 
 struct options {

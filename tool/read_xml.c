@@ -98,6 +98,7 @@ static uint32_t add(struct reader *reader, noemathu_row row, size_t line)
         rows->lines = held(rows->lines, reader->lines_room, sizeof *rows->lines);
     }
     rows->lines[rows->nodes.rows] = line;
+    row.maker = reader->wishes.maker;
     return add_row(&rows->nodes, row);
 }
 

@@ -8,11 +8,12 @@
 
 #include "nodes.h"
 
-/* What is left out, or made something else. */
+/* What is left out, or made something else, and whose rows they are. */
 struct xml_wishes {
     bool no_comments, no_instructions;
     bool no_cdata;  /* CDATA sections become text */
     bool no_blanks; /* no text of white space alone, where an element holds no other text and xml:space does not keep it */
+    uint32_t maker; /* of every row */
 };
 
 struct xml_rows {

@@ -29,6 +29,7 @@ static void append_dropped(struct buffer *line, const struct tree *tree, struct 
     }
     append_text(line, " = ");
     append_quoted(line, field_of(tree, row.value));
+    append_maker(line, ", ", row);
     append_text(line, ", is dropped by refusal ");
     append_number(line, dropped.number);
     append_text(line, ": ");
@@ -55,6 +56,7 @@ static void json_dropped(struct buffer *line, const struct session *session, con
         json_string(line, "local", field_of(tree, row.local_name));
     }
     json_string(line, "value", field_of(tree, row.value));
+    json_maker(line, row);
     json_number(line, "refusal", dropped.number);
     json_text(line, "sentence", noemathu_text(dropped.number));
     json_close(line);

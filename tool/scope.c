@@ -56,7 +56,8 @@ static noemathu_row moved_row(struct nodes *nodes, const struct tree *tree, uint
     return moved;
 }
 
-/* Gives a copied element the declarations that are in scope at the original and stand outside of it. */
+/* Gives a copied element the declarations that are in scope at the original and stand outside of it. They are by the maker of the
+   element, which needs them, as those that normalization adds. */
 static void carry_scope(struct nodes *nodes, const struct tree *tree, uint32_t row, uint32_t copy)
 {
     size_t count;
@@ -64,7 +65,7 @@ static void carry_scope(struct nodes *nodes, const struct tree *tree, uint32_t r
     for (size_t i = 0; i < count; i++) {
         if (tree->rows[bindings[i].declaration].parent == row)
             continue;
-        noemathu_row declaration = {.type = NOEMATHU_DECLARATION, .parent = copy};
+        noemathu_row declaration = {.type = NOEMATHU_DECLARATION, .parent = copy, .maker = tree->rows[row].maker};
         declaration.local_name = share(nodes, bindings[i].prefix);
         declaration.value = share(nodes, bindings[i].uri);
         add_row(nodes, declaration);

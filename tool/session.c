@@ -178,7 +178,7 @@ enum status open_session(const char *argument, enum expected expected, struct xm
 /* Rows and pool as they are, for a message about what the library has refused. */
 static void write_unjudged(const struct nodes *nodes, struct buffer *bundle)
 {
-    uint8_t header[NOEMATHU_BUNDLE_HEADER] = {'N', 'T', 'B', 1, 0, 0};
+    uint8_t header[NOEMATHU_BUNDLE_HEADER] = {'N', 'T', 'B', NOEMATHU_BUNDLE_VERSION, 0, 0};
     for (size_t k = 0; k < 2; k++)
         header[6 + k] = (uint8_t)(nodes->rows >> 8 * k);
     for (size_t k = 0; k < 4; k++)

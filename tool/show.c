@@ -14,7 +14,8 @@ static void append_value(struct buffer *line, const struct tree *tree, uint32_t 
     append_quoted(line, field_of(tree, tree->rows[row].value));
 }
 
-/* An element or attribute: as it is written, what its maker means, and what a reader takes it for if that is another. */
+/* An element or attribute: as it is written, what its maker means, who that is if it is told, and what a reader takes it for if
+   that is another. */
 static void append_named(struct buffer *line, const struct tree *tree, uint32_t row)
 {
     noemathu_row given = tree->rows[row];
@@ -27,6 +28,7 @@ static void append_named(struct buffer *line, const struct tree *tree, uint32_t 
         append_expanded(line, field_of(tree, given.uri), field_of(tree, given.local_name));
     if (is_attribute(given))
         append_value(line, tree, row, " = ");
+    append_maker(line, "   ", given);
     struct meaning meaning = {.is_same = true};
     if (has_meaning(tree, row))
         meaning = meaning_of(tree, row);
@@ -34,6 +36,15 @@ static void append_named(struct buffer *line, const struct tree *tree, uint32_t 
         return;
     append_text(line, "   <-- ");
     append_reading(line, tree, row, meaning);
+}
+
+void append_maker(struct buffer *line, const char *before, noemathu_row row)
+{
+    if (row.maker == 0)
+        return;
+    append_text(line, before);
+    append_text(line, "by maker ");
+    append_number(line, row.maker);
 }
 
 void append_node(struct buffer *line, const struct tree *tree, uint32_t row)
@@ -52,8 +63,16 @@ void append_node(struct buffer *line, const struct tree *tree, uint32_t row)
         if (given.type == NOEMATHU_TEXT || given.value.length > 0)
             append_value(line, tree, row, given.type == NOEMATHU_TEXT ? "" : " ");
     }
+    if (!is_element(given) && !is_attribute(given))
+        append_maker(line, "   ", given);
     if (wrong)
         end_red(line);
+}
+
+void json_maker(struct buffer *line, noemathu_row row)
+{
+    if (row.maker != 0)
+        json_number(line, "maker", row.maker);
 }
 
 void json_node(struct buffer *line, const struct tree *tree, uint32_t row)
@@ -78,6 +97,7 @@ void json_node(struct buffer *line, const struct tree *tree, uint32_t row)
     }
     if (!is_element(given))
         json_string(line, "value", field_of(tree, given.value));
+    json_maker(line, given);
     free_buffer(&path);
 }
 

@@ -51,7 +51,7 @@ int LLVMFuzzerTestOneInput(const uint8_t *data, size_t size);
 
 int LLVMFuzzerTestOneInput(const uint8_t *data, size_t size)
 {
-    struct xml_wishes wishes = {size % 2 == 0, size % 4 < 2, size % 8 < 4, size % 16 < 8};
+    struct xml_wishes wishes = {size % 2 == 0, size % 4 < 2, size % 8 < 4, size % 16 < 8, (uint32_t)size};
     struct buffer first = read_and_written((struct bytes){data, size}, wishes, false);
     if (first.length > 0) {
         struct buffer second = read_and_written(buffer_bytes(&first), wishes, true);

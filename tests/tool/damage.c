@@ -123,11 +123,12 @@ static enum status run_some(char *file, char *other)
         {"", "prefix", "urn:s", node},
         {"", "diff", file, node},
         {"", "diff", "--as-read", file, file},
+        {"", "diff", "--makers", file, other},
         {"", "check-proposal", file, file},
         {"", "check-proposal", "--json", file, node},
         {"", "check-proposal", other, file},
         {"", "check-proposal", "--json", file, other},
-        {"", "from-xml", file, "-o", "/dev/null"},
+        {"", "from-xml", "--maker", "7", file, "-o", "/dev/null"},
         {"", "from-xml", "--no-blanks", "--no-cdata", file, "-o", "/dev/null"},
         {"", "xml", file},
         {"", "xml", "--json", node},
@@ -181,7 +182,7 @@ static bool names_mean(const struct session *session)
 static bool is_consistent(const char *file)
 {
     struct session session;
-    bool accepted = open_session(file, BUNDLE_OR_XML, (struct xml_wishes){false, false, false, false}, &session) == STATUS_DONE;
+    bool accepted = open_session(file, BUNDLE_OR_XML, (struct xml_wishes){0}, &session) == STATUS_DONE;
     bool good = !accepted || (paths_lead_back(&session.tree) && names_mean(&session));
     close_session(&session);
     return good;

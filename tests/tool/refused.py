@@ -23,13 +23,13 @@ class Bundle:
         self.pool += text
         return [len(self.pool) - len(text), len(text)]
 
-    def add(self, kind, parent, prefix=b"", name=b"", uri=b"", value=b""):
-        self.rows.append([kind, parent] + self.place(prefix) + self.place(name) + self.place(uri) + self.place(value))
+    def add(self, kind, parent, prefix=b"", name=b"", uri=b"", value=b"", maker=0):
+        self.rows.append([kind, parent, *self.place(prefix), *self.place(name), *self.place(uri), *self.place(value), maker])
         return len(self.rows) - 1
 
-    def bytes(self):
-        words = [word for row in self.rows for word in row]
-        return b"NTB" + struct.pack("<HBHI", 1, 0, len(self.rows), len(self.pool)) + struct.pack(
+    def bytes(self, version=2):
+        words = [word for row in self.rows for word in row[:{1: 10, 2: 11}[version]]]
+        return b"NTB" + struct.pack("<HBHI", version, 0, len(self.rows), len(self.pool)) + struct.pack(
             f"<{len(words)}I", *words) + self.pool
 
 
@@ -111,12 +111,13 @@ def odd():
     return made
 
 
-def plan(prefix=b"note", declared=b"note", parent=2, uri=b"urn:n", kind=13):
+def plan(prefix=b"note", declared=b"note", parent=2, uri=b"urn:n", kind=13, maker=0):
     """What somebody proposes for the session: another prefix for p:note, and its declaration."""
     made = session()
     made.rows[2][2:4] = made.place(prefix)
     made.rows[2][6:8] = made.place(uri)
-    made.add(kind, parent, name=declared, value=b"urn:n")
+    made.rows[2][10] = maker
+    made.add(kind, parent, name=declared, value=b"urn:n", maker=5)
     return made
 
 
@@ -141,6 +142,29 @@ def old():
     made.add(2, made.note, b"p", b"id", b"urn:n", b"3")
     made.add(2, made.note, b"q", b"id", b"urn:n", b"4")
     made.add(3, 7, value=b"kept")
+    return made
+
+
+def makers():
+    """A session of three makers: the host's root declares what the host uses; a guest's element declares nothing and has an
+    attribute of a third, whose name has no prefix, and a declaration of its own that says something else than its name."""
+    made = Bundle()
+    root = made.add(1, NONE, b"", b"session", b"urn:s", maker=1)
+    made.add(13, root, value=b"urn:s", maker=1)
+    note = made.add(1, root, b"p", b"note", b"urn:n", maker=2)
+    made.add(2, note, name=b"role", uri=b"urn:roles", value=b"x", maker=4294967295)
+    made.add(3, note, value=b"text", maker=2)
+    made.add(3, note, value=b" and more", maker=3)
+    other = made.add(1, root, b"q", b"other", b"urn:o", maker=2)
+    made.add(13, other, name=b"q", value=b"urn:else", maker=3)
+    return made
+
+
+def old_makers():
+    """Doubled attributes of two makers."""
+    made = makers()
+    made.add(2, 2, name=b"role", uri=b"urn:roles", value=b"y", maker=6)
+    made.add(13, 2, name=b"p", maker=6)
     return made
 
 
@@ -201,18 +225,25 @@ MADE = {
     "23": lambda: session().bytes(),
     "24": lambda: outside().bytes(),
     "30": lambda: b"PTB" + session().bytes()[3:],
-    "31": lambda: b"NTB\2\0" + session().bytes()[5:],
+    "31": lambda: b"NTB\3\0" + session().bytes()[5:],
     "32": lambda: cut(100),
     "plan": lambda: plan().bytes(),
     "plan-41": lambda: plan(declared=b"", parent=0).bytes(),
     "plan-42": lambda: plan(declared=b"old", parent=0, kind=258).bytes(),
     "plan-43": lambda: plan(uri=b"urn:m").bytes(),
     "plan-43-added": lambda: plan(kind=2).bytes(),
+    "plan-43-maker": lambda: plan(maker=9).bytes(),
     "plan-44": lambda: plan(declared=b"n").bytes(),
     "inner": lambda: moved(2).bytes(),
     "outer": lambda: moved(0).bytes(),
     "old": lambda: old().bytes(),
     "old-4": lambda: old_and_damaged().bytes(),
+    "makers": lambda: makers().bytes(),
+    "old-makers": lambda: old_makers().bytes(),
+    "version-1": lambda: session().bytes(1),
+    "version-1-old": lambda: old().bytes(1),
+    "version-1-makers": lambda: makers().bytes(1),
+    "version-1-32": lambda: b"NTB\1\0" + session().bytes()[5:],
     "dead": lambda: dead().bytes(),
     "parts": lambda: parts_of_each_other().bytes(),
     "two": lambda: two().bytes(),

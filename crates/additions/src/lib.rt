@@ -19,10 +19,10 @@ pub fn set_place(table: &mut [u32], row: Row, field: u32, place: Place)
     table[at + 1] = place.length;
 }
 
-// Writes a declaration as a row: the declared prefix and the URI are parts of the pool.
-pub fn append_row(table: &mut [u32], row: Row, owner: Row, local: Place, value: Place)
+// Writes a declaration of a maker as a row: the declared prefix and the URI are parts of the pool.
+pub fn append_row(table: &mut [u32], row: Row, owner: Row, maker: u32, local: Place, value: Place)
     requires { ⌜ WIDTH * row .0 + WIDTH ≤ length (now table) ⌝ }
-    ensures { λ _. ⌜ now (table .exit) ≡ written (now (table .entry)) (WIDTH * row .0) (declarationWords (owner .0) local value) ⌝ }
+    ensures { λ _. ⌜ now (table .exit) ≡ written (now (table .entry)) (WIDTH * row .0) (declarationWords (owner .0) maker local value) ⌝ }
 {
     let words = [
         rules::DECLARATION,
@@ -35,6 +35,7 @@ pub fn append_row(table: &mut [u32], row: Row, owner: Row, local: Place, value: 
         0,
         value.offset.0,
         value.length,
+        maker,
     ];
     buffers::write_rows(table, row, &words);
 }

@@ -24,9 +24,9 @@ abbrev pub fieldIn : List ℕ → Place → Field
 fieldIn pool place =
     record { offset = place .offset .0; size = place .length; bytes = part pool (place .offset .0) (place .length) }
 
--- the words of a new declaration: its owner, and the places of the declared prefix and of the URI; no pool matters
-abbrev pub declarationWords : ℕ → Place → Place → List ℕ
-declarationWords owner prefix uri = wordsOf (newDeclaration owner (fieldIn [] prefix) (fieldIn [] uri))
+-- the words of a new declaration: its owner and its maker, and the places of the declared prefix and of the URI; no pool matters
+abbrev pub declarationWords : ℕ → ℕ → Place → Place → List ℕ
+declarationWords owner maker prefix uri = wordsOf (newDeclaration owner maker (fieldIn [] prefix) (fieldIn [] uri))
 
 -- A list put from an index on, behind what stands there: if it fits, where it ends, and the buffer up to there; what is behind that
 -- may have changed. If it does not fit, what is answered is past the buffer's end, and nothing else is told.

@@ -32,10 +32,7 @@ fn check_any(bundle: &[u8]) -> Checked
     let mut words = [0; WORDS];
     match bundle_opening::read_rows(bundle, &mut words) {
         Opened::Rows(n) => {
-            checker::check(
-                bundle_parts::table(&words, n),
-                bundle_parts::pool(bundle, n),
-            )
+            checker::check(bundle_parts::table(&words, n), bundle_parts::pool(bundle))
         }
         Opened::Refused(x) => Checked::Refused(x),
     }
@@ -49,10 +46,7 @@ fn check_few(bundle: &[u8]) -> Checked
     let mut words = [0; FEW_WORDS];
     match bundle_opening::read_rows(bundle, &mut words) {
         Opened::Rows(n) => {
-            checker::check_small(
-                bundle_parts::table(&words, n),
-                bundle_parts::pool(bundle, n),
-            )
+            checker::check_small(bundle_parts::table(&words, n), bundle_parts::pool(bundle))
         }
         Opened::Refused(x) => Checked::Refused(x),
     }

@@ -24,7 +24,7 @@ use Rattle.bundles.proofs.Writing.{length-bundle}
 pub header-bytes :
     (rows bytes a b c d e f : ℕ) → a ≡ rows % 256 → b ≡ rows / 256 % 256
     → c ≡ bytes % 256 → d ≡ bytes / 256 % 256 → e ≡ bytes / 65536 % 256 → f ≡ bytes / 16777216 % 256
-    → 78 ∷ 84 ∷ 66 ∷ 1 ∷ 0 ∷ 0 ∷ a ∷ b ∷ c ∷ d ∷ e ∷ f ∷ [] ≡ headerBytes rows bytes
+    → 78 ∷ 84 ∷ 66 ∷ 2 ∷ 0 ∷ 0 ∷ a ∷ b ∷ c ∷ d ∷ e ∷ f ∷ [] ≡ headerBytes rows bytes
 header-bytes rows bytes a b c d e f first second third fourth fifth sixth =
     let fifth′ : e ≡ bytes / 256 / 256 % 256 = omega arith in
     let sixth′ : f ≡ bytes / 256 / 256 / 256 % 256 = omega arith in

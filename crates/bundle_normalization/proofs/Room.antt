@@ -1,16 +1,16 @@
 -- The working table and the working pool have room for the result, whatever the size for which they were made.
 -- Assumes nothing.
 use Prim.Native.Nat.{ℕ, _+_, _*_, _≤_, _<_, min}
-use mathlib.Core.Path.{_≡_, ap, _∙_, subst, sym}
+use mathlib.Core.Path.{_≡_, subst, sym}
 use mathlib.Core.List.{List}
 use native.Mathlib.Omega.{arith}
-use lib.ListN.{length, drop, replicate, length-drop, length-replicate}
+use lib.ListN.{length, replicate, length-replicate}
 use Rattle.rules.specs.Table.{WIDTH, MOST-ROWS}
 use Rattle.table_size.specs.Small.{FEW-ROWS, FEW-BYTES}
 use Rattle.normal_form.specs.Result.{RoomFor}
-use Rattle.bundles.specs.Bundles.{poolStart}
+use Rattle.bundles.specs.Bundles.{bundlePool}
 use Rattle.bundles.specs.Opening.{Opens}
-use Rattle.bundles.proofs.Opening.{bundle-agreed}
+use Rattle.bundles.proofs.Opening.{bundle-agreed, length-pool}
 use Rattle.bundle_normalization.specs.Small.{Small}
 
 -- Arrays that were made for so many rows and pool bytes serve a bundle that has no more.
@@ -33,11 +33,9 @@ module _ (bytes buffer : List ℕ) (n : ℕ) (is : Opens bytes buffer n) (small 
       let rows = is .rows in
       omega arith
 
-  pub pool-few : (pool : List ℕ) → pool ≡ drop (poolStart n) bytes → length pool ≤ FEW-BYTES
-  pool-few pool e =
+  pub pool-few : length (bundlePool bytes) ≤ FEW-BYTES
+  pool-few =
       let known = bundle-agreed bytes (is .bundle) in
       let short = small .short (known .header) in
-      let total = known .total in
-      let rows = is .rows in
-      let long = ap length e ∙ length-drop (poolStart n) bytes in
+      let long = length-pool bytes known in
       omega arith

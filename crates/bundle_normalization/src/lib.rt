@@ -33,7 +33,7 @@ fn normalize_any(bundle: &[u8], out: &mut [u8]) -> Written
     match bundle_opening::read_rows(bundle, &mut words) {
         Opened::Rows(n) => {
             let mut work = [0; normal_form::WORK];
-            let bytes = bundle_parts::copy_pool(bundle, n, &mut work);
+            let bytes = bundle_parts::copy_pool(bundle, &mut work);
             let made = in_place::normalize(&mut words, &mut work, n, bytes);
             result_bundle::write_made(made, &words, &work, out)
         }
@@ -51,7 +51,7 @@ fn normalize_few(bundle: &[u8], out: &mut [u8]) -> Written
     match bundle_opening::read_rows(bundle, &mut words) {
         Opened::Rows(n) => {
             let mut work = [0; in_place::FEW_WORK];
-            let bytes = bundle_parts::copy_pool(bundle, n, &mut work);
+            let bytes = bundle_parts::copy_pool(bundle, &mut work);
             let made = in_place::normalize_few(&mut words, &mut work, n, bytes);
             result_bundle::write_made(made, &words, &work, out)
         }

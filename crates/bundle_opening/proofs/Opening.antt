@@ -2,7 +2,7 @@
 -- Assumes nothing.
 use Prim.Native.Nat.{ℕ, _+_, _-_, _*_, _%_, _≤_, _<_}
 use mathlib.Core.Path.{_≡_, refl, sym, ap, _∙_, subst}
-use mathlib.Core.Bool.{true, false, not, true≢false}
+use mathlib.Core.Bool.{Bool, true, false, _&&_, _||_, not, true≢false}
 use mathlib.Core.List.{List, [], _∷_}
 use mathlib.Core.Option.{none, some}
 use native.Mathlib.Omega.{arith}
@@ -10,7 +10,6 @@ use lib.ListN.{length, getD, take, drop, length-drop}
 use lib.Seq.{take-all, take-at}
 use lib.Dec.{eqb, ltb}
 use borrow.Author.Tests.{lt-ltb, le-ltb, eq-eqb, ne-eqb}
-use Rattle.rules.specs.Lists.{sameBytes}
 use Rattle.rules.specs.Table.{WIDTH, MOST-ROWS, MOST-BYTES}
 use Rattle.rules.specs.Refusals.{refusedIf, badSize, verdict}
 use Rattle.rules.specs.declared.Refusal.{Refusal}
@@ -20,30 +19,33 @@ use Rattle.rules.proofs.Accepted.{sized}
 use Rattle.buffers.specs.Writes.{written}
 use Rattle.buffers.proofs.Writes.{written-from-start, length-written}
 use Rattle.rules.proofs.Lists.{unequal-sameBytes}
-use Rattle.little_endian.specs.Numbers.{bytesOf, wordsFrom}
-use Rattle.little_endian.proofs.Numbers.{length-wordsFrom}
-use Rattle.bundles.specs.Bundles.{MARK, VERSION, HEADER, poolStart, bundleRows, bundlePoolLength, wrongMark, otherVersion, badLengths, bundleRefusal, bundleTable, bundlePool}
+use Rattle.little_endian.specs.Numbers.{wordsFrom}
+use Rattle.bundles.specs.Bundles.{MARK, VERSION, OLD-VERSION, HEADER, OLD-WIDTH, OLD-ROW-BYTES, bundleVersion, bundleRows, bundlePoolLength, isOld, rowBytes, poolStart, wrongMark, otherVersion, badLengths, bundleRefusal, widened, bundleTable, bundlePool}
 use Rattle.bundles.specs.Opening.{openingRefusal, HasRoom, Opens}
 use Rattle.bundle_opening.specs.declared.Opened.{Opened}
-use Rattle.bundles.proofs.Opening.{Agreed, bundle-agreed}
+use Rattle.bundles.proofs.Opening.{Agreed, bundle-agreed, new-bytes, old-bytes, new-table, old-table, length-table, length-pool}
 
--- Bytes that are too few for what they are compared with.
-too-few : (a b : List ℕ) (n : ℕ) → length b ≡ n → length a < n → sameBytes (take n a) b ≡ false
-too-few a b n size h =
-    unequal-sameBytes (take n a) b (λ e.
-    let long : length a ≡ length b = ap length (sym (take-all n a (omega arith)) ∙ e) in
-    omega arith)
+neither : (a b : Bool) → not (a || b) ≡ (not a && not b)
+neither true b = refl
+neither false b = refl
 
 module _ (bytes : List ℕ) where
   pub mark-cut : length bytes < 3 → true ≡ wrongMark bytes
   unfolding wrongMark
-  mark-cut h = sym (ap not (too-few bytes MARK 3 refl h))
+  mark-cut h =
+      sym
+      (ap not
+      (unequal-sameBytes (take 3 bytes) MARK (λ e.
+      let long : length bytes ≡ length MARK = ap length (sym (take-all 3 bytes (omega arith)) ∙ e) in
+      omega arith)))
 
   pub version-cut : length bytes < 5 → true ≡ otherVersion bytes
   unfolding otherVersion
-  version-cut h =
-      let long = length-drop 3 bytes in
-      sym (ap not (too-few (drop 3 bytes) (bytesOf 2 VERSION) 2 refl (omega arith)))
+  version-cut h = rw (lt-ltb (length bytes) 5 h) refl
+
+  pub version-told : 5 ≤ length bytes → (version : ℕ) → version ≡ bundleVersion bytes → (not (eqb version VERSION) && not (eqb version OLD-VERSION)) ≡ otherVersion bytes
+  unfolding otherVersion isOld
+  version-told h version is = rw (is, le-ltb (length bytes) 5 h) (sym (neither (eqb (bundleVersion bytes) VERSION) (eqb (bundleVersion bytes) OLD-VERSION)))
 
   pub lengths-cut : length bytes < HEADER → true ≡ badLengths bytes
   unfolding badLengths
@@ -53,20 +55,9 @@ module _ (bytes : List ℕ) where
   unfolding badLengths
   zero-other h e = rw (le-ltb (length bytes) HEADER h, ne-eqb (getD bytes 5 0) 0 e) refl
 
-  pub lengths-told : HEADER ≤ length bytes → getD bytes 5 0 ≡ 0 → not (eqb (length bytes) (poolStart (bundleRows bytes) + bundlePoolLength bytes)) ≡ badLengths bytes
+  pub lengths-told : HEADER ≤ length bytes → getD bytes 5 0 ≡ 0 → not (eqb (length bytes) (poolStart bytes + bundlePoolLength bytes)) ≡ badLengths bytes
   unfolding badLengths
   lengths-told h e = rw (le-ltb (length bytes) HEADER h, eq-eqb (getD bytes 5 0) 0 e) refl
-
-pub length-table : (bytes : List ℕ) → length (bundleTable bytes) ≡ WIDTH * bundleRows bytes
-unfolding bundleTable
-length-table bytes = length-wordsFrom (WIDTH * bundleRows bytes) (drop HEADER bytes)
-
-pub length-pool : (bytes : List ℕ) → Agreed bytes → length (bundlePool bytes) ≡ bundlePoolLength bytes
-unfolding bundlePool
-length-pool bytes known =
-    let cut = length-drop (poolStart (bundleRows bytes)) bytes in
-    let total = known .total in
-    omega arith
 
 -- The refusals of opening, one after the other.
 module _ (bytes : List ℕ) where
@@ -138,25 +129,49 @@ behind-header bytes =
     take-all (length bytes - HEADER) (drop HEADER bytes) (omega arith)
 
 -- The rows, read into the start of a buffer.
-pub opens : (bytes buffer : List ℕ) (n : ℕ) (left : List ℕ) → HasRoom bytes buffer → Ready bytes → n ≡ bundleRows bytes → left ≡ written buffer 0 (wordsFrom (WIDTH * n) (drop HEADER bytes)) → Opens bytes left n
-unfolding bundleTable
+pub opens : (bytes buffer : List ℕ) (n : ℕ) (left : List ℕ) → HasRoom bytes buffer → Ready bytes → n ≡ bundleRows bytes → left ≡ written buffer 0 (bundleTable bytes) → Opens bytes left n
 opens bytes buffer n left has can is read =
     let total = can .known .total in
     let few = can .few in
     let size = has (can .known .header) few in
-    let words = wordsFrom (WIDTH * n) (drop HEADER bytes) in
-    let long : length words ≡ WIDTH * n = length-wordsFrom (WIDTH * n) (drop HEADER bytes) in
+    let long : length (bundleTable bytes) ≡ WIDTH * n = length-table bytes ∙ ap (λ (k : ℕ). WIDTH * k) (sym is) in
     record {
       bundle = can .bundle;
       rows = sym is;
       few = omega arith;
       short = can .short;
-      room = let kept = ap length read ∙ length-written buffer 0 words (omega arith) in omega arith;
+      room = let kept = ap length read ∙ length-written buffer 0 (bundleTable bytes) (omega arith) in omega arith;
       inside = omega arith;
-      table =
-          ap (take (WIDTH * n)) (read ∙ written-from-start buffer words) ∙ take-at words (drop (length words) buffer) (WIDTH * n) long
-          ∙ ap (λ (k : ℕ). wordsFrom (WIDTH * k) (drop HEADER bytes)) is;
+      table = ap (take (WIDTH * n)) (read ∙ written-from-start buffer (bundleTable bytes)) ∙ take-at (bundleTable bytes) (drop (length (bundleTable bytes)) buffer) (WIDTH * n) long;
     }
+
+-- They stand behind the header, and are read by the version.
+module _ (bytes : List ℕ) (n : ℕ) (is : n ≡ bundleRows bytes) where
+  abbrev behind : List ℕ
+  behind = take (length bytes - HEADER) (drop HEADER bytes)
+
+  behind-long : Agreed bytes → rowBytes bytes * n ≤ length behind
+  behind-long known =
+      let total = known .total in
+      let long = ap length (behind-header bytes) ∙ length-drop HEADER bytes in
+      let rows : rowBytes bytes * n ≡ rowBytes bytes * bundleRows bytes = ap (λ (k : ℕ). rowBytes bytes * k) is in
+      omega arith
+
+  pub new-inside : Agreed bytes → isOld bytes ≡ false → 4 * (WIDTH * n) ≤ length behind
+  new-inside known new = let long = rw (new-bytes bytes new) at (behind-long known) in omega arith
+
+  pub old-inside : Agreed bytes → isOld bytes ≡ true → OLD-ROW-BYTES * n ≤ length behind
+  old-inside known old = rw (old-bytes bytes old) at (behind-long known)
+
+  pub new-rows : isOld bytes ≡ false → (buffer left : List ℕ) → left ≡ written buffer 0 (wordsFrom (WIDTH * n) behind) → left ≡ written buffer 0 (bundleTable bytes)
+  new-rows new buffer left read =
+      read ∙ ap (λ (l : List ℕ). written buffer 0 (wordsFrom (WIDTH * n) l)) (behind-header bytes)
+      ∙ ap (λ (k : ℕ). written buffer 0 (wordsFrom (WIDTH * k) (drop HEADER bytes))) is ∙ ap (written buffer 0) (sym (new-table bytes new))
+
+  pub old-rows : isOld bytes ≡ true → (buffer left : List ℕ) → left ≡ written buffer 0 (widened n (wordsFrom (OLD-WIDTH * n) behind)) → left ≡ written buffer 0 (bundleTable bytes)
+  old-rows old buffer left read =
+      read ∙ ap (λ (l : List ℕ). written buffer 0 (widened n (wordsFrom (OLD-WIDTH * n) l))) (behind-header bytes)
+      ∙ ap (λ (k : ℕ). written buffer 0 (widened k (wordsFrom (OLD-WIDTH * k) (drop HEADER bytes)))) is ∙ ap (written buffer 0) (sym (old-table bytes old))
 
 -- What opening answers.
 module _ (bytes left : List ℕ) where

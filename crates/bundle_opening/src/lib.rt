@@ -9,7 +9,6 @@ ghost use Rattle.bundles.specs.Bundles.{wrongMark, otherVersion, badLengths};
 ghost use Rattle.bundles.specs.Opening.{openingRefusal, HasRoom, Opens};
 ghost use Rattle.bundle_opening.specs.declared.Opened.{Opened};
 use bundles::HEADER;
-use bundles::ROW_BYTES;
 use rules::Checked;
 use rules::Refusal;
 
@@ -29,6 +28,10 @@ pub fn read_rows(bundle: &[u8], table: &mut [u32]) -> Opened
     match judge(bundle) {
         Checked::Accepted => {
             let rows = bundle_parts::row_count(bundle);
+            if bundle_parts::is_old(bundle) {
+                old_rows::read(&bundle[HEADER..], table, rows);
+                return Opened::Rows(rows);
+            }
             little_endian::read_words(&bundle[HEADER..], table, rules::WIDTH * rows);
             Opened::Rows(rows)
         }
@@ -68,14 +71,15 @@ fn wrong_mark(bundle: &[u8]) -> bool
     !names::same(&bundle[..3], &bundles::MARK)
 }
 
-// 31: another version, or the bytes end before it is whole.
+// 31: the bytes end before the version is whole, or it is another.
 fn other_version(bundle: &[u8]) -> bool
     ensures { λ r. ⌜ r ≡ otherVersion (now (bundle .entry)) ⌝ }
 {
     if bundle.len() < 5 {
         return true;
     }
-    !names::same(&bundle[3..5], &bundles::VERSION)
+    let version = bundle_parts::version(bundle);
+    (version != bundles::VERSION as u32) & (version != bundles::OLD_VERSION as u32)
 }
 
 // 32: the bytes end before the rows, a zero byte that is not zero, or lengths that disagree.
@@ -88,6 +92,5 @@ fn bad_lengths(bundle: &[u8]) -> bool
     if bundle[5] != 0 {
         return true;
     }
-    bundle.len()
-        != HEADER + ROW_BYTES * bundle_parts::row_count(bundle) + bundle_parts::pool_length(bundle)
+    bundle.len() != bundle_parts::pool_start(bundle) + bundle_parts::pool_length(bundle)
 }

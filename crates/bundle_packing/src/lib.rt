@@ -41,7 +41,7 @@ fn pack_any(bundle: &[u8], out: &mut [u8]) -> Written
     match bundle_opening::read_rows(bundle, &mut words) {
         Opened::Rows(n) => {
             let table = bundle_parts::table(&words, n);
-            let pool = bundle_parts::pool(bundle, n);
+            let pool = bundle_parts::pool(bundle);
             let mut packed = [0; WORDS];
             let mut dictionary = [0; checker::DICTIONARY];
             let mut notes = [0; checker::NOTES];
@@ -72,7 +72,7 @@ fn pack_few(bundle: &[u8], out: &mut [u8]) -> Written
     match bundle_opening::read_rows(bundle, &mut words) {
         Opened::Rows(n) => {
             let table = bundle_parts::table(&words, n);
-            let pool = bundle_parts::pool(bundle, n);
+            let pool = bundle_parts::pool(bundle);
             let mut packed = [0; FEW_WORDS];
             let mut dictionary = [0; checker::SMALL_DICTIONARY];
             let mut notes = [0; checker::SMALL_NOTES];

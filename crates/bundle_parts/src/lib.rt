@@ -1,11 +1,29 @@
 // The parts of a session bundle: the numbers that it names, its rows, once they are read, and its pool.
 ghost use mathlib.Core.Path.{_≡_};
 ghost use Prim.Native.Nat.{_*_, _≤_, _<_};
-ghost use lib.ListN.{length, take, drop};
+ghost use lib.ListN.{length, take};
 ghost use Rattle.rules.specs.Table.{WIDTH};
-ghost use Rattle.bundles.specs.Bundles.{HEADER, poolStart, bundleRows, bundlePoolLength};
+ghost use Rattle.bundles.specs.Bundles.{HEADER, bundleVersion, bundleRows, bundlePoolLength, isOld, poolStart, bundlePool};
 use bundles::HEADER;
+use bundles::OLD_ROW_BYTES;
+use bundles::OLD_VERSION;
 use bundles::ROW_BYTES;
+
+// The version that a bundle names.
+pub fn version(bundle: &[u8]) -> u32
+    requires { ⌜ 5 ≤ length (now bundle) ⌝ }
+    ensures { λ r. ⌜ r ≡ bundleVersion (now (bundle .entry)) ⌝ }
+{
+    little_endian::short(bundle, 3)
+}
+
+// The bundle is of the version before makers.
+pub fn is_old(bundle: &[u8]) -> bool
+    requires { ⌜ HEADER ≤ length (now bundle) ⌝ }
+    ensures { λ r. ⌜ r ≡ isOld (now (bundle .entry)) ⌝ }
+{
+    version(bundle) == OLD_VERSION as u32
+}
 
 // The row count that a bundle names.
 pub fn row_count(bundle: &[u8]) -> usize
@@ -31,22 +49,34 @@ pub fn table(words: &[u32], rows: usize) -> &[u32]
     &words[..rules::WIDTH * rows]
 }
 
-// The pool of a bundle of so many rows.
-pub fn pool(bundle: &[u8], rows: usize) -> &[u8]
-    requires { ⌜ poolStart rows ≤ length (now bundle) ⌝ }
-    ensures { λ r. ⌜ now r ≡ drop (poolStart rows) (now (bundle .entry)) ⌝ }
+// Where the pool of a bundle starts: behind its rows, which take ten words each or eleven, by the version.
+pub fn pool_start(bundle: &[u8]) -> usize
+    requires { ⌜ HEADER ≤ length (now bundle) ⌝ }
+    ensures { λ r. ⌜ (r ≡ poolStart (now (bundle .entry))) × (r < 4294967296 * 64) ⌝ }
 {
-    &bundle[HEADER + ROW_BYTES * rows..]
+    let rows = row_count(bundle);
+    if is_old(bundle) {
+        return HEADER + OLD_ROW_BYTES * rows;
+    }
+    HEADER + ROW_BYTES * rows
 }
 
-// Copies the pool of a bundle of so many rows to the start of a working pool; answers how many bytes it has.
-pub fn copy_pool(bundle: &[u8], rows: usize, work: &mut [u8]) -> usize
-    requires { ⌜ poolStart rows ≤ length (now bundle) ⌝ }
-    requires { ⌜ length (drop (poolStart rows) (now bundle)) ≤ length (now work) ⌝ }
-    ensures { λ r. ⌜ r ≡ length (drop (poolStart rows) (now (bundle .entry))) ⌝ }
-    ensures { λ r. ⌜ take r (now (work .exit)) ≡ drop (poolStart rows) (now (bundle .entry)) ⌝ }
+// The pool of a bundle.
+pub fn pool(bundle: &[u8]) -> &[u8]
+    requires { ⌜ poolStart (now bundle) ≤ length (now bundle) ⌝ }
+    ensures { λ r. ⌜ now r ≡ bundlePool (now (bundle .entry)) ⌝ }
 {
-    let bytes = pool(bundle, rows);
+    &bundle[pool_start(bundle)..]
+}
+
+// Copies the pool of a bundle to the start of a working pool; answers how many bytes it has.
+pub fn copy_pool(bundle: &[u8], work: &mut [u8]) -> usize
+    requires { ⌜ poolStart (now bundle) ≤ length (now bundle) ⌝ }
+    requires { ⌜ length (bundlePool (now bundle)) ≤ length (now work) ⌝ }
+    ensures { λ r. ⌜ r ≡ length (bundlePool (now (bundle .entry))) ⌝ }
+    ensures { λ r. ⌜ take r (now (work .exit)) ≡ bundlePool (now (bundle .entry)) ⌝ }
+{
+    let bytes = pool(bundle);
     buffers::copy_bytes(bytes, work);
     bytes.len()
 }

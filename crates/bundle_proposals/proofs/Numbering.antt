@@ -6,13 +6,13 @@ use mathlib.Core.Bool.{true, false, true≢false}
 use mathlib.Core.List.{List}
 use mathlib.Core.Option.{none, some}
 use native.Mathlib.Omega.{arith}
-use lib.ListN.{length, take, drop, replicate, length-replicate}
+use lib.ListN.{length, take, replicate, length-replicate}
 use Rattle.rules.specs.Table.{WIDTH, MOST-ROWS, rowCount}
 use Rattle.rules.specs.Refusals.{checkRefusal, checked}
 use Rattle.rules.specs.declared.Refusal.{Refusal}
 use Rattle.rules.specs.declared.Checked.{Checked}
 use Rattle.notes.specs.Notes.{NOTES}
-use Rattle.bundles.specs.Bundles.{HEADER, poolStart, bundleRows}
+use Rattle.bundles.specs.Bundles.{HEADER, bundleRows, bundlePool}
 use Rattle.bundles.specs.Opening.{NamesAtMost, Opens}
 use Rattle.bundles.proofs.Opening.{opened-few}
 use Rattle.bundle_opening.specs.declared.Opened.{Opened}
@@ -46,7 +46,7 @@ module _ (bytes buffer : List ℕ) (n : ℕ) (opens : Opens bytes buffer n) (tab
       let enough = room (omega arith) (omega arith) in
       omega arith
 
-  module _ (pool notes : List ℕ) (rest : pool ≡ drop (poolStart n) bytes) {answer : Checked} (told : answer ≡ checked table pool) where
+  module _ (pool notes : List ℕ) (rest : pool ≡ bundlePool bytes) {answer : Checked} (told : answer ≡ checked table pool) where
     pub check-fails : (x : Refusal) → answer ≡ Checked.Refused x → Numbers bytes buffer notes (Opened.Refused x)
     check-fails x is = fails bytes buffer notes x (opened-refused bytes buffer n opens table pool first rest x (refused table pool told x is))
 
@@ -65,6 +65,6 @@ module _ (bytes buffer : List ℕ) (n : ℕ) (opens : Opens bytes buffer n) (tab
 
 -- A bundle that is numbered: its rows as a table, with its pool.
 pub handed :
-    (bytes buffer notes : List ℕ) (n : ℕ) → Numbered bytes buffer notes n → (table pool : List ℕ) → table ≡ take (WIDTH * n) buffer → pool ≡ drop (poolStart n) bytes
+    (bytes buffer notes : List ℕ) (n : ℕ) → Numbered bytes buffer notes n → (table pool : List ℕ) → table ≡ take (WIDTH * n) buffer → pool ≡ bundlePool bytes
     → (checkRefusal table pool ≡ none) × Noted table pool notes
 handed bytes buffer notes n is table pool first rest = rw (first, rest) (is .accepted, is .noted)

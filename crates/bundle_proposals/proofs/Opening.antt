@@ -1,16 +1,16 @@
 -- What opening a bundle tells of its check.
 -- Assumes nothing.
 use Prim.Native.Nat.{ℕ, _*_}
-use mathlib.Core.Path.{_≡_, sym, ap, _∙_}
+use mathlib.Core.Path.{_≡_, sym, _∙_}
 use mathlib.Core.Bool.{Bool, true, false}
 use mathlib.Core.List.{List, [], _∷_}
 use mathlib.Core.Option.{Option, none, some, Option·none-ne-some}
-use lib.ListN.{length, take, drop}
+use lib.ListN.{length, take}
 use Rattle.rules.specs.Table.{WIDTH, rowCount, nodes}
 use Rattle.rules.specs.Refusals.{refusedIf, firstRefusal, lowestRefusal, badSize, rowRefusal, checkRefusal}
 use Rattle.rules.specs.declared.Refusal.{Refusal}
 use Rattle.rules.proofs.Refusals.{first-alone}
-use Rattle.bundles.specs.Bundles.{poolStart, bundleRefusal, bundleTable, bundlePool}
+use Rattle.bundles.specs.Bundles.{bundleRefusal, bundleTable, bundlePool}
 use Rattle.bundles.specs.Opening.{openingRefusal, Opens}
 use Rattle.proposals.specs.Proposals.{bundleCheckRefusal}
 
@@ -32,9 +32,5 @@ module _ (bytes buffer : List ℕ) (n : ℕ) (opens : Opens bytes buffer n) wher
   unfolding bundleCheckRefusal
   opened-check = rw (opens .bundle) (sym (first-alone (checkRefusal (bundleTable bytes) (bundlePool bytes))))
 
-  pub opened-pool : drop (poolStart n) bytes ≡ bundlePool bytes
-  unfolding bundlePool
-  opened-pool = ap (λ k. drop (poolStart k) bytes) (sym (opens .rows))
-
-  pub opened-refused : (table pool : List ℕ) → table ≡ take (WIDTH * n) buffer → pool ≡ drop (poolStart n) bytes → (x : Refusal) → checkRefusal table pool ≡ some x → bundleCheckRefusal bytes ≡ some x
-  opened-refused table pool first rest x e = opened-check ∙ rw (sym (opens .table), sym opened-pool, sym first, sym rest) e
+  pub opened-refused : (table pool : List ℕ) → table ≡ take (WIDTH * n) buffer → pool ≡ bundlePool bytes → (x : Refusal) → checkRefusal table pool ≡ some x → bundleCheckRefusal bytes ≡ some x
+  opened-refused table pool first rest x e = opened-check ∙ rw (sym (opens .table), sym first, sym rest) e

@@ -50,7 +50,7 @@ fn check_any(original: &[u8], proposal: &[u8]) -> Checked
     let mut mine = [0; checker::NOTES];
     match number_any(original, &mut table, &mut mine) {
         Opened::Rows(n) => {
-            let pool = bundle_parts::pool(original, n);
+            let pool = bundle_parts::pool(original);
             check_any_proposal(bundle_parts::table(&table, n), pool, &mine, proposal)
         }
         Opened::Refused(why) => proposal_check::refuse_original(why),
@@ -67,7 +67,7 @@ fn check_any_proposal(table: &[u32], pool: &[u8], mine: &[u16], proposal: &[u8])
     match bundle_opening::read_rows(proposal, &mut other) {
         Opened::Rows(n) => {
             let rows = bundle_parts::table(&other, n);
-            proposal_check::check_proposal(table, pool, mine, rows, bundle_parts::pool(proposal, n))
+            proposal_check::check_proposal(table, pool, mine, rows, bundle_parts::pool(proposal))
         }
         Opened::Refused(why) => proposal_check::refuse_proposal(why),
     }
@@ -82,7 +82,7 @@ fn check_few(original: &[u8], proposal: &[u8]) -> Checked
     let mut mine = [0; checker::SMALL_NOTES];
     match number_few(original, &mut table, &mut mine) {
         Opened::Rows(n) => {
-            let pool = bundle_parts::pool(original, n);
+            let pool = bundle_parts::pool(original);
             check_few_proposal(bundle_parts::table(&table, n), pool, &mine, proposal)
         }
         Opened::Refused(why) => proposal_check::refuse_original(why),
@@ -99,7 +99,7 @@ fn check_few_proposal(table: &[u32], pool: &[u8], mine: &[u16], proposal: &[u8])
     match bundle_opening::read_rows(proposal, &mut other) {
         Opened::Rows(n) => {
             let rows = bundle_parts::table(&other, n);
-            proposal_check::check_few(table, pool, mine, rows, bundle_parts::pool(proposal, n))
+            proposal_check::check_few(table, pool, mine, rows, bundle_parts::pool(proposal))
         }
         Opened::Refused(why) => proposal_check::refuse_proposal(why),
     }
@@ -115,7 +115,7 @@ fn number_any(bundle: &[u8], table: &mut [u32], notes: &mut [u16]) -> Opened
     }
     match bundle_opening::read_rows(bundle, table) {
         Opened::Rows(n) => {
-            let pool = bundle_parts::pool(bundle, n);
+            let pool = bundle_parts::pool(bundle);
             match proposal_check::row_numbers::check(bundle_parts::table(table, n), pool, notes) {
                 Checked::Accepted => Opened::Rows(n),
                 Checked::Refused(why) => Opened::Refused(why),
@@ -133,7 +133,7 @@ fn number_few(bundle: &[u8], table: &mut [u32], notes: &mut [u16]) -> Opened
 {
     match bundle_opening::read_rows(bundle, table) {
         Opened::Rows(n) => {
-            let pool = bundle_parts::pool(bundle, n);
+            let pool = bundle_parts::pool(bundle);
             match proposal_check::row_numbers::check_few(
                 bundle_parts::table(table, n),
                 pool,

@@ -38,7 +38,7 @@ fn read_any(bundle: &[u8], out_table: &mut [u32], out_pool: &mut [u8]) -> Filled
     match bundle_opening::read_rows(bundle, &mut words) {
         Opened::Rows(n) => {
             let table = &words[..rules::WIDTH * n];
-            let pool = bundle_parts::pool(bundle, n);
+            let pool = bundle_parts::pool(bundle);
             table_reading::read(
                 checker::check(table, pool),
                 table,
@@ -62,7 +62,7 @@ fn read_few(bundle: &[u8], out_table: &mut [u32], out_pool: &mut [u8]) -> Filled
     match bundle_opening::read_rows(bundle, &mut words) {
         Opened::Rows(n) => {
             let table = &words[..rules::WIDTH * n];
-            let pool = bundle_parts::pool(bundle, n);
+            let pool = bundle_parts::pool(bundle);
             table_reading::read(
                 checker::check_small(table, pool),
                 table,

@@ -35,7 +35,7 @@ fn lookup_any(bundle: &[u8], row: Row, question: Question, query: &[u8]) -> Boun
     match bundle_opening::read_rows(bundle, &mut words) {
         Opened::Rows(n) => resolver::lookup(
             bundle_parts::table(&words, n),
-            bundle_parts::pool(bundle, n),
+            bundle_parts::pool(bundle),
             row,
             question,
             query,
@@ -53,7 +53,7 @@ fn lookup_few(bundle: &[u8], row: Row, question: Question, query: &[u8]) -> Boun
     match bundle_opening::read_rows(bundle, &mut words) {
         Opened::Rows(n) => resolver::lookup_few(
             bundle_parts::table(&words, n),
-            bundle_parts::pool(bundle, n),
+            bundle_parts::pool(bundle),
             row,
             question,
             query,

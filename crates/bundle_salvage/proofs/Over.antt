@@ -6,13 +6,13 @@ use mathlib.Core.Bool.{Bool, true, false}
 use mathlib.Core.List.{List, [], _∷_}
 use mathlib.Core.Option.{Option, none, some, Option·none-ne-some}
 use native.Mathlib.Omega.{arith}
-use lib.ListN.{length, take, drop}
+use lib.ListN.{length, take}
 use lib.Seq.{length-take-le}
 use Rattle.rules.specs.Table.{WIDTH}
 use Rattle.rules.specs.Refusals.{refusedIf, firstRefusal, unlessRefused, badSize}
 use Rattle.rules.specs.declared.Refusal.{Refusal}
 use Rattle.rules.specs.declared.Salvaged.{Salvaged}
-use Rattle.bundles.specs.Bundles.{poolStart, bundleRefusal, bundleTable, bundlePool}
+use Rattle.bundles.specs.Bundles.{bundleRefusal, bundleTable, bundlePool}
 use Rattle.bundles.specs.Opening.{openingRefusal, NamesAtMost, Opens}
 use Rattle.bundles.proofs.Opening.{bundle-agreed}
 use Rattle.bundles.proofs.Over.{over-open}
@@ -39,7 +39,7 @@ salvage-not-open bytes size listSize x e =
 
 -- A bundle that is open.
 module _ {bytes buffer : List ℕ} {n : ℕ} (is : Opens bytes buffer n) {table : List ℕ} (t : table ≡ take (WIDTH * n) buffer) where
-  pub salvage-open : {pool : List ℕ} → pool ≡ drop (poolStart n) bytes → (size : ℕ) {long listSize : ℕ} → long ≡ listSize → rescued table pool size long ≡ bundleSalvaged bytes size listSize
+  pub salvage-open : {pool : List ℕ} → pool ≡ bundlePool bytes → (size : ℕ) {long listSize : ℕ} → long ≡ listSize → rescued table pool size long ≡ bundleSalvaged bytes size listSize
   unfolding bundleSalvaged
   salvage-open {pool} p size {long} {listSize} l =
       ap (λ (m : ℕ). rescued table pool size m) l ∙ ap (λ (w : List ℕ). rescued w pool size listSize) t

@@ -38,7 +38,7 @@ fn salvage_any(bundle: &[u8], out: &mut [u8], list: &mut [u32]) -> Rescued
     match bundle_opening::read_rows(bundle, &mut words) {
         Opened::Rows(n) => {
             let table = bundle_parts::table(&words, n);
-            let pool = bundle_parts::pool(bundle, n);
+            let pool = bundle_parts::pool(bundle);
             let mut kept = [0; WORDS];
             let salvaged = salvager::salvage(table, pool, &mut kept, list);
             salvaged_bundle::finish(salvaged, &kept, pool, out, list)
@@ -58,7 +58,7 @@ fn salvage_few(bundle: &[u8], out: &mut [u8], list: &mut [u32]) -> Rescued
     match bundle_opening::read_rows(bundle, &mut words) {
         Opened::Rows(n) => {
             let table = bundle_parts::table(&words, n);
-            let pool = bundle_parts::pool(bundle, n);
+            let pool = bundle_parts::pool(bundle);
             let mut kept = [0; FEW_WORDS];
             let salvaged = salvager::salvage_small(table, pool, &mut kept, list);
             salvaged_bundle::finish(salvaged, &kept, pool, out, list)

@@ -38,7 +38,7 @@ fn write_any(bundle: &[u8], row: Row, out: &mut [u8]) -> Written
     let mut words = [0; WORDS];
     match bundle_opening::read_rows(bundle, &mut words) {
         Opened::Rows(n) => {
-            let pool = bundle_parts::pool(bundle, n);
+            let pool = bundle_parts::pool(bundle);
             writer::write(bundle_parts::table(&words, n), pool, row, out)
         }
         Opened::Refused(x) => bundles::refuse(out, x),
@@ -54,7 +54,7 @@ fn write_few(bundle: &[u8], row: Row, out: &mut [u8]) -> Written
     let mut words = [0; FEW_WORDS];
     match bundle_opening::read_rows(bundle, &mut words) {
         Opened::Rows(n) => {
-            let pool = bundle_parts::pool(bundle, n);
+            let pool = bundle_parts::pool(bundle);
             writer::write_few(bundle_parts::table(&words, n), pool, row, out)
         }
         Opened::Refused(x) => bundles::refuse(out, x),

@@ -10,6 +10,7 @@ use lib.ListN.{length, take, replicate}
 use lib.Seq.{take-at}
 use lib.Dec.{T, ltb}
 use borrow.Author.Tests.{le-ltb}
+use Rattle.rules.specs.Lists.{allOf}
 use Rattle.rules.specs.Table.{WIDTH, MOST-ROWS, MOST-BYTES, rowCount, words}
 use Rattle.rules.specs.Answers.{filledNumber, filledRows, filledBytes, writtenNumber}
 use Rattle.rules.specs.Refusals.{refusedIf, firstRefusal, unlessRefused, checkRefusal, checked}
@@ -23,11 +24,13 @@ use Rattle.rules.proofs.Table.{length-words}
 use Rattle.rules.proofs.Accepted.{unrefused}
 use Rattle.rules.proofs.Result.{refusal-numbered}
 use Rattle.rules.proofs.Again.{passes-again}
+use Rattle.little_endian.specs.Numbers.{isWord}
 use Rattle.bundles.specs.Bundles.{writeBundle, bundleRefusal, bundleTable, bundlePool}
 use Rattle.bundles.specs.Operations.{tableReadRefusal, tableRead, writeDone, bundleWritten, tableWritten, bundleRead, bundleChecked, stateBundle}
 use Rattle.bundles.specs.Inverse.{StandsFor}
 use Rattle.bundles.specs.Demands.{bundleDone, resultBundle}
 use Rattle.bundles.specs.Calls.{bundleWasRead, Reads, Writes, NormalizedPasses, ReadsWritten, WritesRead}
+use Rattle.bundles.proofs.Opening.{words-table}
 use Rattle.bundles.proofs.Inverse.{reads-back, writes-back}
 use Rattle.bundles.proofs.Demand3.{result, normal, success-told, stands, done-unrefused, written-bundle, bundle-succeeds}
 
@@ -40,16 +43,16 @@ module _ (table pool : List ℕ) (none? : normalizationRefusal table pool (WIDTH
       let again = passes-again table pool (WIDTH * MOST-ROWS) MOST-BYTES (success-told table pool none?) in
       rw (normal table pool none?, take-at (words (made .rows)) (replicate (WIDTH * MOST-ROWS - length (words (made .rows))) 0) (WIDTH * length (made .rows)) (length-words (made .rows)), take-at (made .pool) (replicate (MOST-BYTES - length (made .pool)) 0) (length (made .pool)) refl) at again
 
-  bundle-passes : bundleChecked (stateBundle (result table pool none?)) ≡ Checked.Accepted
+  bundle-passes : allOf isWord table ≡ true → bundleChecked (stateBundle (result table pool none?)) ≡ Checked.Accepted
   unfolding bundleChecked
-  bundle-passes =
-      let back = stands table pool none? in
+  bundle-passes all =
+      let back = stands table pool none? all in
       rw (back .bundle, back .tableRead, back .poolRead) passes
 
 pub normalized-passes : NormalizedPasses
-normalized-passes bytes size t =
+normalized-passes bytes size all t =
     let s = bundle-succeeds bytes size t in
-    rw (s .bundle) (bundle-passes (bundleTable bytes) (bundlePool bytes) (s .normal))
+    rw (s .bundle) (bundle-passes (bundleTable bytes) (bundlePool bytes) (s .normal) (words-table bytes all))
 
 -- A read that is refused, and the answered parts of one that is not.
 refused-not-read : (tableSize poolSize : ℕ) (x : Refusal) → bundleWasRead (refusal tableSize poolSize x) ≡ false
@@ -87,10 +90,10 @@ written-of table pool size t =
     (all-none tried fits .0, rw fits (written-bundle size bundle))
 
 pub reads-written : ReadsWritten
-reads-written table pool size tableSize poolSize t rows room =
+reads-written table pool size tableSize poolSize all t rows room =
     let written = written-of table pool size t in
     let ok = written .0 in
-    rw (written .1, read-of (writeBundle table pool) table pool tableSize poolSize (reads-back table pool ok) ok rows room)
+    rw (written .1, read-of (writeBundle table pool) table pool tableSize poolSize (reads-back table pool all ok) ok rows room)
     (read-parts tableSize poolSize table pool (unrefused table pool ok .size .whole))
 
 -- What a bundle tells that was read.
@@ -120,11 +123,11 @@ writes table pool size ok room =
     record { done = rw fits tt; bytes = rw fits (written-bundle size bundle) }
 
 pub writes-read : WritesRead
-writes-read bytes tableSize poolSize size byte table pool reads room =
+writes-read bytes tableSize poolSize size byte version table pool reads room =
     let was = was-read bytes tableSize poolSize (reads .done) in
     let parts = read-parts tableSize poolSize (bundleTable bytes) (bundlePool bytes) (unrefused (bundleTable bytes) (bundlePool bytes) (was .accepted) .size .whole) in
     let outcome = was .outcome in
     let same-table : bundleTable bytes ≡ table = sym (parts .tableRead) ∙ ap (λ (o : Outcome). take (WIDTH * filledRows (o .answer)) (o .table)) (sym outcome) ∙ reads .tableRead in
     let same-pool : bundlePool bytes ≡ pool = sym (parts .poolRead) ∙ ap (λ (o : Outcome). take (filledBytes (o .answer)) (o .pool)) (sym outcome) ∙ reads .poolRead in
-    let back = writes-back bytes byte (was .bundle) in
+    let back = writes-back bytes byte (was .bundle) version in
     rw (sym same-table, sym same-pool) (rw back at (writes (bundleTable bytes) (bundlePool bytes) size (was .accepted) (rw back room)))

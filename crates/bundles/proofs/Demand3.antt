@@ -10,6 +10,7 @@ use lib.ListN.{length, replicate}
 use lib.Seq.{take-at}
 use lib.Dec.{T, ltb}
 use borrow.Author.Tests.{ltb-false}
+use Rattle.rules.specs.Lists.{allOf}
 use Rattle.rules.specs.Table.{WIDTH, MOST-ROWS, MOST-BYTES, nodes, words}
 use Rattle.rules.specs.Answers.{filledNumber, writtenNumber, writtenBytes}
 use Rattle.rules.specs.Refusals.{refusedIf, firstRefusal, unlessRefused, checkRefusal}
@@ -23,12 +24,14 @@ use Rattle.rules.proofs.Table.{length-words}
 use Rattle.rules.proofs.Accepted.{unrefused}
 use Rattle.rules.proofs.Result.{refusal-numbered, rows-back, succeeds}
 use Rattle.rules.proofs.Demand3.{result-is, meaning, independence}
+use Rattle.little_endian.specs.Numbers.{isByte, isWord}
 use Rattle.bundles.specs.Bundles.{bundleRefusal, bundleTable, bundlePool}
 use Rattle.bundles.specs.Operations.{WriteOutcome, writeRefused, writeDone, bundleWritten, stateBundle, normalizedInto, bundleNormalized}
 use Rattle.bundles.specs.Inverse.{StandsFor}
 use Rattle.bundles.specs.Demands.{bundleDone, resultBundle, bundleNodes, NormalizedBundle, BundleMeaning, BundleIndependence}
 use Rattle.bundles.proofs.Words.{normal-fits, normal-words}
-use Rattle.bundles.proofs.Inverse.{Writable, written-stands}
+use Rattle.bundles.proofs.Opening.{words-table}
+use Rattle.bundles.proofs.Inverse.{Writable, written-is, written-stands}
 
 -- An outcome that is not refused.
 refused-not-done : (size : ℕ) (x : Refusal) → bundleDone (writeRefused size x) ≡ false
@@ -80,17 +83,20 @@ module _ (table pool : List ℕ) (none? : normalizationRefusal table pool (WIDTH
         whole = omega arith;
         rows = omega arith;
         poolSmall = omega arith;
-        words = normal-words table pool (unrefused table pool accepted) few-bytes;
       }
 
-  pub stands : StandsFor (stateBundle result) (words (result .rows)) (result .pool)
+  pub is-bundle : bundleRefusal (stateBundle result) ≡ none
   unfolding stateBundle
-  stands = written-stands (words (result .rows)) (result .pool) writable
+  is-bundle = written-is (words (result .rows)) (result .pool) writable
 
-  rows-written : bundleNodes (stateBundle result) ≡ resultRows (normalized table pool (WIDTH * MOST-ROWS) MOST-BYTES)
-  rows-written =
-      ap (λ (t : List ℕ). nodes t (bundlePool (stateBundle result))) (stands .tableRead)
-      ∙ ap (nodes (words (result .rows))) (stands .poolRead)
+  pub stands : allOf isWord table ≡ true → StandsFor (stateBundle result) (words (result .rows)) (result .pool)
+  unfolding stateBundle
+  stands all = written-stands (words (result .rows)) (result .pool) writable (normal-words table pool (unrefused table pool accepted) all few-bytes)
+
+  rows-written : allOf isWord table ≡ true → bundleNodes (stateBundle result) ≡ resultRows (normalized table pool (WIDTH * MOST-ROWS) MOST-BYTES)
+  rows-written all =
+      ap (λ (t : List ℕ). nodes t (bundlePool (stateBundle result))) (stands all .tableRead)
+      ∙ ap (nodes (words (result .rows))) (stands all .poolRead)
       ∙ rows-back (result .pool) (result .rows) (normal-fits table pool (unrefused table pool accepted))
       ∙ sym (result-is table pool (WIDTH * MOST-ROWS) MOST-BYTES (succeeds table pool (WIDTH * MOST-ROWS) MOST-BYTES success-told))
 
@@ -124,26 +130,26 @@ bundle-succeeds bytes size t =
 pub normalized-bundle : NormalizedBundle
 normalized-bundle bytes size t =
     let s = bundle-succeeds bytes size t in
-    rw (s .bundle) (stands (bundleTable bytes) (bundlePool bytes) (s .normal) .bundle)
+    rw (s .bundle) (is-bundle (bundleTable bytes) (bundlePool bytes) (s .normal))
 
 -- The rows of the bundle that is written are the result of the table's normalization.
-rows-of-result : (bytes : List ℕ) (size : ℕ) → T (bundleDone (bundleNormalized bytes size)) → bundleNodes (resultBundle (bundleNormalized bytes size)) ≡ resultRows (normalized (bundleTable bytes) (bundlePool bytes) (WIDTH * MOST-ROWS) MOST-BYTES)
-rows-of-result bytes size t =
+rows-of-result : (bytes : List ℕ) (size : ℕ) → allOf isByte bytes ≡ true → T (bundleDone (bundleNormalized bytes size)) → bundleNodes (resultBundle (bundleNormalized bytes size)) ≡ resultRows (normalized (bundleTable bytes) (bundlePool bytes) (WIDTH * MOST-ROWS) MOST-BYTES)
+rows-of-result bytes size all t =
     let s = bundle-succeeds bytes size t in
-    ap bundleNodes (s .bundle) ∙ rows-written (bundleTable bytes) (bundlePool bytes) (s .normal)
+    ap bundleNodes (s .bundle) ∙ rows-written (bundleTable bytes) (bundlePool bytes) (s .normal) (words-table bytes all)
 
 -- Demand 3, first part.
 pub bundle-meaning : BundleMeaning
-bundle-meaning bytes size t r i b =
+bundle-meaning bytes size all t r i b =
     let s = bundle-succeeds bytes size t in
-    rw (rows-of-result bytes size t)
+    rw (rows-of-result bytes size all t)
     (meaning (bundleTable bytes) (bundlePool bytes) (WIDTH * MOST-ROWS) MOST-BYTES (success-told (bundleTable bytes) (bundlePool bytes) (s .normal)) r i b)
 
 -- Demand 3, second part.
 pub bundle-independence : BundleIndependence
-bundle-independence bytes size bytes′ size′ t t′ e i agree =
+bundle-independence bytes size bytes′ size′ all all′ t t′ e i agree =
     let s = bundle-succeeds bytes size t in
     let s′ = bundle-succeeds bytes′ size′ t′ in
-    rw (rows-of-result bytes size t, rows-of-result bytes′ size′ t′)
+    rw (rows-of-result bytes size all t, rows-of-result bytes′ size′ all′ t′)
     (independence (bundleTable bytes) (bundlePool bytes) (WIDTH * MOST-ROWS) MOST-BYTES (bundleTable bytes′) (bundlePool bytes′) (WIDTH * MOST-ROWS) MOST-BYTES
     (success-told (bundleTable bytes) (bundlePool bytes) (s .normal)) (success-told (bundleTable bytes′) (bundlePool bytes′) (s′ .normal)) e i agree)

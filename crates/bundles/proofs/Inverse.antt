@@ -1,9 +1,10 @@
 -- Reader and writer are inverse: what is written is read back, and what is read is written back, every byte.
 -- Assumes nothing.
 use Prim.Native.Nat.{ℕ, _+_, _*_, _%_, _≤_, _<_}
-use mathlib.Core.Path.{_≡_, refl, sym, ap, _∙_, subst}
-use mathlib.Core.Bool.{true, false}
+use mathlib.Core.Path.{_≡_, refl, sym, ap, _∙_}
+use mathlib.Core.Bool.{true, false, _||_}
 use mathlib.Core.List.{List, [], _∷_, _++_, append-assoc}
+use mathlib.Core.Option.{none}
 use native.Mathlib.Omega.{arith}
 use lib.ListN.{length, getD, take, drop, length-drop, take-append-drop}
 use lib.Seq.{drop-cons, drop-drop}
@@ -11,108 +12,113 @@ use lib.Dec.{eqb}
 use borrow.Author.Tests.{le-ltb, eq-eqb}
 use Rattle.rules.specs.Lists.{allOf, sameBytes}
 use Rattle.rules.specs.Table.{WIDTH, part, rowCount}
-use Rattle.rules.specs.Refusals.{refusedIf}
+use Rattle.rules.specs.Refusals.{refusedIf, checkRefusal}
 use Rattle.rules.specs.declared.Refusal.{Refusal}
 use Rattle.rules.proofs.Lists.{not-false, sameBytes-equal}
 use Rattle.rules.proofs.Refusals.{not-refused, all-none}
-use Rattle.rules.proofs.Accepted.{Accepted, unrefused}
-use Rattle.buffers.proofs.Rows.{words-of-rows}
-use Rattle.little_endian.specs.Numbers.{isByte, bytesOf, wordBytes, wordsFrom}
-use Rattle.little_endian.proofs.Numbers.{isWord, number-bytes, all-drop, number-back, words-written, rest-written, words-read, length-wordsFrom}
-use Rattle.bundles.specs.Bundles.{MARK, VERSION, HEADER, poolStart, writeBundle, bundleRows, bundlePoolLength, wrongMark, otherVersion, badLengths, bundleRefusal, bundleTable, bundlePool}
+use Rattle.rules.proofs.Accepted.{unrefused}
+use Rattle.little_endian.specs.Numbers.{isByte, isWord, wordBytes, wordsFrom}
+use Rattle.little_endian.proofs.Numbers.{number-bytes, all-drop, number-back, words-written, rest-written, words-read}
+use Rattle.bundles.specs.Bundles.{MARK, VERSION, OLD-VERSION, HEADER, headerOf, writeBundle, bundleVersion, bundleRows, bundlePoolLength, isOld, rowBytes, poolStart, wrongMark, otherVersion, badLengths, bundleRefusal, bundleTable, bundlePool}
 use Rattle.bundles.specs.Inverse.{StandsFor, ReadsBack, WritesBack}
-use Rattle.bundles.proofs.Opening.{Agreed, agreed}
-use Rattle.bundles.proofs.Writing.{length-bundle}
-use Rattle.bundles.proofs.Words.{accepted-words}
+use Rattle.bundles.proofs.Opening.{Agreed, bundle-agreed, new-bytes, new-table, length-table, length-pool}
+use Rattle.bundles.proofs.Writing.{length-any}
 
--- The table has whole rows, and its rows, its words and its pool's length are numbers that a bundle can hold.
+-- The table has whole rows, and its rows and its pool's length are numbers that a bundle can hold.
 pub record Writable (table pool : List ℕ) : Type 0 where
   pub whole : length table % WIDTH ≡ 0
   pub rows : rowCount table < 65536
   pub poolSmall : length pool < 4294967296
-  pub words : allOf isWord table ≡ true
 
+-- A bundle of a version: its header, the words of its rows and its pool.
+module _ (version rows : ℕ) (words pool : List ℕ) (few : rows < 65536) (small : length pool < 4294967296) where
+  abbrev bundle : List ℕ
+  bundle = headerOf version rows (length pool) ++ (wordBytes words ++ pool)
+
+  pub rows-back : bundleRows bundle ≡ rows
+  rows-back = number-bytes 2 rows (omega arith)
+
+  pool-length-back : bundlePoolLength bundle ≡ length pool
+  pool-length-back = number-bytes 4 (length pool) (omega arith)
+
+  -- The rows take as many bytes as the version says.
+  module _ (fits : rowBytes bundle * rows ≡ 4 * length words) where
+    start : rowBytes bundle * bundleRows bundle ≡ 4 * length words
+    start = ap (λ (n : ℕ). rowBytes bundle * n) rows-back ∙ fits
+
+    pub pool-back : bundlePool bundle ≡ pool
+    unfolding bundlePool
+    pool-back =
+        ap (λ (n : ℕ). drop (HEADER + n) bundle) start
+        ∙ sym (drop-drop (4 * length words) HEADER bundle)
+        ∙ rest-written words pool
+
+    written-agrees : badLengths bundle ≡ false
+    unfolding badLengths
+    written-agrees =
+        let long = length-any version rows words pool in
+        let size = pool-length-back in
+        let enough : HEADER ≤ length bundle = omega arith in
+        let behind = start in
+        let same : length bundle ≡ poolStart bundle + bundlePoolLength bundle = omega arith in
+        rw (le-ltb (length bundle) HEADER enough, eq-eqb _ _ same) refl
+
+    pub is-bundle : (eqb (bundleVersion bundle) VERSION || isOld bundle) ≡ true → bundleRefusal bundle ≡ none
+    unfolding bundleRefusal wrongMark otherVersion
+    is-bundle known =
+        let long = length-any version rows words pool in
+        rw (le-ltb (length bundle) 5 (omega arith), known, written-agrees) refl
+
+-- The bundle that is written.
 module _ (table pool : List ℕ) (can : Writable table pool) where
-  rows-back : bundleRows (writeBundle table pool) ≡ rowCount table
+  new : isOld (writeBundle table pool) ≡ false
+  unfolding writeBundle isOld
+  new = refl
+
+  known-version : (eqb (bundleVersion (writeBundle table pool)) VERSION || isOld (writeBundle table pool)) ≡ true
+  unfolding writeBundle isOld
+  known-version = refl
+
+  count : WIDTH * rowCount table ≡ length table
+  count = let whole = can .whole in omega arith
+
+  fits : rowBytes (writeBundle table pool) * rowCount table ≡ 4 * length table
+  fits =
+      let row = new-bytes (writeBundle table pool) new in
+      let rows = count in
+      ap (λ (n : ℕ). n * rowCount table) row ∙ omega arith
+
+  pub written-is : bundleRefusal (writeBundle table pool) ≡ none
   unfolding writeBundle
-  rows-back = number-bytes 2 (rowCount table) (omega (arith, can .rows))
+  written-is = is-bundle VERSION (rowCount table) table pool (can .rows) (can .poolSmall) fits known-version
 
-  pool-length-back : bundlePoolLength (writeBundle table pool) ≡ length pool
+  table-back : allOf isWord table ≡ true → bundleTable (writeBundle table pool) ≡ table
   unfolding writeBundle
-  pool-length-back = number-bytes 4 (length pool) (omega (arith, can .poolSmall))
-
-  behind-header : drop HEADER (writeBundle table pool) ≡ wordBytes table ++ pool
-  unfolding writeBundle
-  behind-header = refl
-
-  table-back : bundleTable (writeBundle table pool) ≡ table
-  unfolding bundleTable
-  table-back =
-      let rows = rows-back in
-      let whole = can .whole in
-      let count : WIDTH * bundleRows (writeBundle table pool) ≡ length table = omega arith in
-      ap (λ (n : ℕ). wordsFrom n (drop HEADER (writeBundle table pool))) count
-      ∙ ap (wordsFrom (length table)) behind-header
-      ∙ words-written table pool (can .words)
-
-  pool-back : bundlePool (writeBundle table pool) ≡ pool
-  unfolding bundlePool
-  pool-back =
-      let rows = rows-back in
-      let whole = can .whole in
-      let place : poolStart (bundleRows (writeBundle table pool)) ≡ HEADER + 4 * length table = omega arith in
-      ap (λ (n : ℕ). drop n (writeBundle table pool)) place
-      ∙ sym (drop-drop (4 * length table) HEADER (writeBundle table pool))
-      ∙ ap (drop (4 * length table)) behind-header
-      ∙ rest-written table pool
-
-  written-marked : wrongMark (writeBundle table pool) ≡ false
-  unfolding writeBundle wrongMark
-  written-marked = refl
-
-  written-version : otherVersion (writeBundle table pool) ≡ false
-  unfolding writeBundle otherVersion
-  written-version = refl
-
-  written-zero : eqb (getD (writeBundle table pool) 5 0) 0 ≡ true
-  unfolding writeBundle
-  written-zero = refl
-
-  written-agrees : badLengths (writeBundle table pool) ≡ false
-  unfolding badLengths
-  written-agrees =
+  table-back all =
       let bytes = writeBundle table pool in
-      let long = length-bundle table pool in
-      let rows = rows-back in
-      let size = pool-length-back in
-      let whole = can .whole in
-      let enough : HEADER ≤ length bytes = omega arith in
-      let same : length bytes ≡ poolStart (bundleRows bytes) + bundlePoolLength bytes = omega arith in
-      rw (le-ltb (length bytes) HEADER enough, written-zero, eq-eqb _ _ same) refl
+      new-table bytes new
+      ∙ ap (λ (n : ℕ). wordsFrom n (drop HEADER bytes)) (ap (λ (n : ℕ). WIDTH * n) (rows-back VERSION (rowCount table) table pool (can .rows) (can .poolSmall)) ∙ count)
+      ∙ words-written table pool all
 
-  pub written-stands : StandsFor (writeBundle table pool) table pool
-  unfolding bundleRefusal
-  written-stands =
+  pub written-stands : allOf isWord table ≡ true → StandsFor (writeBundle table pool) table pool
+  unfolding writeBundle
+  written-stands all =
       record {
-        bundle = rw (written-marked, written-version, written-agrees) refl;
-        tableRead = table-back;
-        poolRead = pool-back;
+        bundle = written-is;
+        tableRead = table-back all;
+        poolRead = pool-back VERSION (rowCount table) table pool (can .rows) (can .poolSmall) fits;
       }
 
 -- The check alone makes a table writable.
-pub legal-writable : (table pool : List ℕ) → Accepted table pool → Writable table pool
-legal-writable table pool a =
-    let bound = a .size .tableBound in
-    let small = a .size .poolBound in
-    record {
-      whole = a .size .whole;
-      rows = omega arith;
-      poolSmall = omega arith;
-      words = subst (λ (t : List ℕ). allOf isWord t ≡ true) (words-of-rows table pool (a .size .whole)) (accepted-words table pool a);
-    }
+pub legal-writable : (table pool : List ℕ) → checkRefusal table pool ≡ none → Writable table pool
+legal-writable table pool e =
+    let size = unrefused table pool e .size in
+    let bound = size .tableBound in
+    let small = size .poolBound in
+    record { whole = size .whole; rows = omega arith; poolSmall = omega arith }
 
 pub reads-back : ReadsBack
-reads-back table pool e = written-stands table pool (legal-writable table pool (unrefused table pool e))
+reads-back table pool all e = written-stands table pool (legal-writable table pool e) all
 
 -- The bytes, part by part.
 next-part : (bytes : List ℕ) (at size : ℕ) → part bytes at size ++ drop (at + size) bytes ≡ drop at bytes
@@ -135,46 +141,48 @@ joined :
     (a ++ (b ++ (c ++ (d ++ e)))) ++ f ≡ a′ ++ (b′ ++ (c′ ++ (d′ ++ (e′ ++ f′))))
 joined a b c d e f a′ b′ c′ d′ e′ f′ p q r s t u = rw (p, q, r, s, t, u) (simp append-assoc)
 
--- A bundle's header is written again from what is read of it.
-module _ (bytes : List ℕ) (all : allOf isByte bytes ≡ true) (known : Agreed bytes) where
-  count-read : rowCount (bundleTable bytes) ≡ bundleRows bytes
-  unfolding bundleTable
-  count-read = let words = length-wordsFrom (WIDTH * bundleRows bytes) (drop HEADER bytes) in omega arith
+-- A bundle is written again from what is read of it.
+module _ (bytes : List ℕ) (all : allOf isByte bytes ≡ true) (refusal : bundleRefusal bytes ≡ none) where
+  agreeing : Agreed bytes
+  agreeing = bundle-agreed bytes refusal
 
-  size-read : length (bundlePool bytes) ≡ bundlePoolLength bytes
+  pub count-read : rowCount (bundleTable bytes) ≡ bundleRows bytes
+  count-read = let long = length-table bytes in omega arith
+
+  marked : take 3 bytes ≡ MARK
+  unfolding bundleRefusal wrongMark
+  marked =
+      let a = all-none (refusedIf (wrongMark bytes) Refusal.Mark ∷ refusedIf (otherVersion bytes) Refusal.Version ∷ refusedIf (badLengths bytes) Refusal.Lengths ∷ []) refusal in
+      sameBytes-equal (take 3 bytes) MARK (not-false (sameBytes (take 3 bytes) MARK) (not-refused (wrongMark bytes) Refusal.Mark (a .0)))
+
+  pub behind-read : (count : ℕ) → 4 * count ≡ rowBytes bytes * bundleRows bytes → wordBytes (wordsFrom count (drop HEADER bytes)) ++ bundlePool bytes ≡ drop HEADER bytes
   unfolding bundlePool
-  size-read =
-      let total = known .total in
-      let cut = length-drop (poolStart (bundleRows bytes)) bytes in
-      omega arith
-
-  behind-read : wordBytes (bundleTable bytes) ++ bundlePool bytes ≡ drop HEADER bytes
-  unfolding bundleTable bundlePool
-  behind-read =
-      let count = WIDTH * bundleRows bytes in
+  behind-read count is =
       let rest = drop HEADER bytes in
-      let total = known .total in
+      let total = agreeing .total in
       let long = length-drop HEADER bytes in
-      let place : HEADER + 4 * count ≡ poolStart (bundleRows bytes) = omega arith in
+      let place : HEADER + 4 * count ≡ poolStart bytes = omega arith in
       ap (λ (l : List ℕ). wordBytes (wordsFrom count rest) ++ l) (sym (drop-drop (4 * count) HEADER bytes ∙ ap (λ (n : ℕ). drop n bytes) place))
-      ∙ words-read count rest (all-drop HEADER bytes all) (omega arith)
+      ∙ words-read count rest (all-drop isByte HEADER bytes all) (omega arith)
 
-  read-written : wrongMark bytes ≡ false → otherVersion bytes ≡ false → writeBundle (bundleTable bytes) (bundlePool bytes) ≡ bytes
-  unfolding writeBundle wrongMark otherVersion
-  read-written mark version =
+  pub read-written :
+      (version : ℕ) → version ≡ bundleVersion bytes → (words : List ℕ) → wordBytes words ++ bundlePool bytes ≡ drop HEADER bytes
+      → headerOf version (rowCount (bundleTable bytes)) (length (bundlePool bytes)) ++ (wordBytes words ++ bundlePool bytes) ≡ bytes
+  read-written version is words behind =
+      let known = agreeing in
       let header = known .header in
-      joined _ _ _ _ _ _ _ _ _ _ _ _
-      (sym (sameBytes-equal (take 3 bytes) MARK (not-false (sameBytes (take 3 bytes) MARK) mark)))
-      (sym (sameBytes-equal (part bytes 3 2) (bytesOf 2 VERSION) (not-false (sameBytes (part bytes 3 2) (bytesOf 2 VERSION)) version)))
+      joined _ _ _ _ _ _ _ _ _ _ _ _ (sym marked)
+      (number-back bytes 3 2 all (omega arith) version is)
       (zero-back bytes header (known .zeroByte))
       (number-back bytes 6 2 all (omega arith) (rowCount (bundleTable bytes)) count-read)
-      (number-back bytes 8 4 all (omega arith) (length (bundlePool bytes)) size-read)
-      behind-read
+      (number-back bytes 8 4 all (omega arith) (length (bundlePool bytes)) (length-pool bytes known))
+      behind
       ∙ parted bytes
 
 pub writes-back : WritesBack
-unfolding bundleRefusal
-writes-back bytes all e =
-    let a = all-none (refusedIf (wrongMark bytes) Refusal.Mark ∷ refusedIf (otherVersion bytes) Refusal.Version ∷ refusedIf (badLengths bytes) Refusal.Lengths ∷ []) e in
-    read-written bytes all (agreed bytes (not-refused (badLengths bytes) Refusal.Lengths (a .1 .1 .0)))
-    (not-refused (wrongMark bytes) Refusal.Mark (a .0)) (not-refused (otherVersion bytes) Refusal.Version (a .1 .0))
+unfolding writeBundle isOld
+writes-back bytes all e version =
+    let new : isOld bytes ≡ false = ap (λ (n : ℕ). eqb n OLD-VERSION) version in
+    let place : 4 * (WIDTH * bundleRows bytes) ≡ rowBytes bytes * bundleRows bytes = rw (new-bytes bytes new) (omega arith) in
+    read-written bytes all e VERSION (sym version) (bundleTable bytes)
+    (ap (λ (t : List ℕ). wordBytes t ++ bundlePool bytes) (new-table bytes new) ∙ behind-read bytes all e (WIDTH * bundleRows bytes) place)

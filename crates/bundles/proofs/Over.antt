@@ -5,7 +5,7 @@ use mathlib.Core.Path.{_≡_, refl, sym, ap, _∙_}
 use mathlib.Core.Bool.{Bool, true, false}
 use mathlib.Core.List.{List, [], _∷_}
 use mathlib.Core.Option.{Option, none, some, Option·none-ne-some}
-use lib.ListN.{length, take, drop}
+use lib.ListN.{length, take}
 use Rattle.rules.specs.Lists.{sameBytes}
 use Rattle.rules.specs.Table.{WIDTH, MOST-BYTES}
 use Rattle.rules.specs.Refusals.{refusedIf, firstRefusal, unlessRefused, badSize, checkRefusal, checked}
@@ -17,7 +17,7 @@ use Rattle.rules.specs.declared.Checked.{Checked}
 use Rattle.rules.specs.declared.Located.{Located}
 use Rattle.rules.specs.declared.Bound.{Bound}
 use Rattle.rules.proofs.DefaultUri.{default-test}
-use Rattle.bundles.specs.Bundles.{poolStart, bundleRefusal, bundleTable, bundlePool}
+use Rattle.bundles.specs.Bundles.{bundleRefusal, bundleTable, bundlePool}
 use Rattle.rules.specs.Outputs.{refusal}
 use Rattle.bundles.specs.Operations.{tableReadRefusal, tableRead, writeRefused, bundleWritten, overBundle, bundleRead, bundleChecked, bundleLookup, bundlePrefixOfUri, bundleDefaultUri, normalizedInto, bundleNormalized}
 use Rattle.bundles.specs.Opening.{openingRefusal, Opens}
@@ -87,18 +87,14 @@ module _ (bytes : List ℕ) (x : Refusal) (e : openingRefusal bytes ≡ some x) 
   normalize-not-open size = over-refused bytes (writeRefused size) (λ t p. normalizedInto t p size) x e (λ s. normalized-refused _ _ Refusal.Size s size)
 
 -- And where it does not: that of the table and the pool.
-module _ (bytes buffer : List ℕ) (n : ℕ) (is : Opens bytes buffer n) (pool : List ℕ) (e : pool ≡ drop (poolStart n) bytes) where
-  opened-pool : bundlePool bytes ≡ pool
-  unfolding bundlePool
-  opened-pool = ap (λ (k : ℕ). drop (poolStart k) bytes) (is .rows) ∙ sym e
-
+module _ (bytes buffer : List ℕ) (n : ℕ) (is : Opens bytes buffer n) (pool : List ℕ) (e : pool ≡ bundlePool bytes) where
   pub pool-short : length pool ≤ MOST-BYTES
-  pool-short = rw (sym opened-pool) (is .short)
+  pool-short = rw e (is .short)
 
   pub over-open : {A : Type 0} (refused : Refusal → A) (answer : List ℕ → List ℕ → A) → answer (take (WIDTH * n) buffer) pool ≡ overBundle bytes refused answer
   over-open refused answer =
       ap (λ (t : List ℕ). answer t pool) (is .table)
-      ∙ ap (λ (p : List ℕ). answer (bundleTable bytes) p) (sym opened-pool)
+      ∙ ap (answer (bundleTable bytes)) e
       ∙ sym (ap (λ (o : Option Refusal). unlessRefused o refused (answer (bundleTable bytes) (bundlePool bytes))) (is .bundle))
 
   pub check-open : checked (take (WIDTH * n) buffer) pool ≡ bundleChecked bytes

@@ -1,30 +1,39 @@
--- The rows of a legal table, and those that normalization makes of it, consist of words.
+-- The rows that normalization makes of a legal table of words consist of words.
 -- Assumes nothing.
-use Prim.Native.Nat.{ℕ, zero, suc, _+_, _≤_, _<_}
-use mathlib.Core.Path.{_≡_, refl}
-use mathlib.Core.Logic.{_⊎_, inl, inr}
+use Prim.Native.Nat.{ℕ, zero, suc, _+_, _*_, _≤_}
+use mathlib.Core.Path.{_≡_, refl, sym}
 use mathlib.Core.Bool.{Bool, true, _&&_}
 use mathlib.Core.List.{List, [], _∷_}
-use mathlib.Core.Option.{Option, none, some}
 use native.Mathlib.Nat.{le-refl}
 use native.Mathlib.Omega.{arith}
-use lib.ListN.{length, set}
+use lib.ListN.{length, getD, set}
 use lib.Dec.{eqb}
-use borrow.Author.Tests.{eqb-true, lt-ltb}
+use borrow.Author.Tests.{lt-ltb}
 use Rattle.rules.specs.Lists.{anyOf, allOf, isEmpty, sameBytes}
-use Rattle.rules.specs.Table.{MOST-ROWS, MOST-BYTES, NONE, ELEMENT, Field, noField, Node, noNode, nodes, wordsOf, words, node, ParentRule, allowedParents}
-use Rattle.rules.specs.Refusals.{parentRule, parentAllowed}
+use Rattle.rules.specs.Table.{WIDTH, MOST-ROWS, MOST-BYTES, TYPE, PARENT, MAKER, ELEMENT, Field, noField, Node, noNode, nodes, wordsOf, words, node}
 use Rattle.rules.specs.Lookups.{scopeAt, inScopeUri, uriBytes}
 use Rattle.rules.specs.Normalization.{State, newDeclaration, withPrefix, isOwnDeclaration, revalued, declare, repairElement, Repair, keep, takeDeclared, takeBuiltIn, declareOwn, makeNumbered, repairOf, newPrefix, newRows, perform, isAttributeOf, repairAttribute, repairAttributes, normalizeRow, normalizeRows, normalForm}
-use Rattle.rules.proofs.Lists.{by-cases, both-true, true-both, true-not-false, allOf-append, allOf-every, allOf-set, allOf-map, allOf-firstThat, firstThat-passes}
-use Rattle.rules.proofs.Table.{length-nodes}
-use Rattle.rules.proofs.Accepted.{Accepted, few-rows, parent-allowed, parent-falls}
+use Rattle.rules.proofs.Lists.{by-cases, both-true, allOf-append, allOf-every, allOf-set, allOf-map}
+use Rattle.rules.proofs.Table.{length-nodes, node-nodes}
+use Rattle.rules.proofs.Accepted.{Accepted, few-rows}
 use Rattle.rules.proofs.Result.{fitsIn, Inside, fits-inside, pool-rows, input-pool}
-use Rattle.little_endian.proofs.Numbers.{isWord}
+use Rattle.little_endian.specs.Numbers.{isWord}
 
--- The row's type and parent are words.
+-- The row's type, parent and maker are words.
 abbrev isHeaded : Node → Bool
-isHeaded n = isWord (n .type) && isWord (n .parent)
+isHeaded n = isWord (n .type) && (isWord (n .parent) && isWord (n .maker))
+
+-- What that tells.
+record Headed (n : Node) : Type 0 where
+  type : isWord (n .type) ≡ true
+  parent : isWord (n .parent) ≡ true
+  maker : isWord (n .maker) ≡ true
+
+head : (n : Node) → isHeaded n ≡ true → Headed n
+head n h =
+    let first = both-true (isWord (n .type)) (isWord (n .parent) && isWord (n .maker)) h in
+    let later = both-true (isWord (n .parent)) (isWord (n .maker)) (first .1) in
+    record { type = first .0; parent = later .0; maker = later .1 }
 
 -- A field that ends in a pool of bounded length.
 field-words : (limit : ℕ) (f : Field) → limit ≤ MOST-BYTES → f .offset + f .size ≤ limit → (isWord (f .offset) ≡ true) × (isWord (f .size) ≡ true)
@@ -32,12 +41,12 @@ field-words limit f small h = (lt-ltb (f .offset) 4294967296 (omega arith), lt-l
 
 row-words : (pool : List ℕ) (n : Node) → length pool ≤ MOST-BYTES → Inside pool n → isHeaded n ≡ true → allOf isWord (wordsOf n) ≡ true
 row-words pool n small i h =
-    let head = both-true (isWord (n .type)) (isWord (n .parent)) h in
+    let ok = head n h in
     let prefix = field-words (length pool) (n .prefix) small (i .prefix) in
     let local = field-words (length pool) (n .local) small (i .local) in
     let uri = field-words (length pool) (n .uri) small (i .uri) in
     let value = field-words (length pool) (n .value) small (i .value) in
-    rw (head .0, head .1, prefix .0, prefix .1, local .0, local .1, uri .0, uri .1, value .0, value .1) refl
+    rw (ok .type, ok .parent, prefix .0, prefix .1, local .0, local .1, uri .0, uri .1, value .0, value .1, ok .maker) refl
 
 all-words : (pool : List ℕ) (ns : List Node) → length pool ≤ MOST-BYTES → allOf (fitsIn pool) ns ≡ true → allOf isHeaded ns ≡ true → allOf isWord (words ns) ≡ true
 unfolding words
@@ -48,44 +57,20 @@ all-words pool (n ∷ ns) small fit head =
     allOf-append isWord (wordsOf n) (words ns) (row-words pool n small (fits-inside pool n (f .0)) (h .0))
     (all-words pool ns small (f .1) (h .1))
 
--- The type of an accepted row is one of the rules', and its parent is NONE or an earlier row.
-rule-word : (type : ℕ) (rule : ParentRule) → parentRule type ≡ some rule → isWord type ≡ true
-unfolding parentRule
-rule-word type rule e =
-    let same = eqb-true (rule .type) type (firstThat-passes (λ (line : ParentRule). eqb (line .type) type) allowedParents e) in
-    let word = allOf-firstThat (λ (line : ParentRule). isWord (line .type)) (λ (line : ParentRule). eqb (line .type) type) allowedParents {x = rule} refl e in
-    rw same at word
+-- The rows of a table of words.
+every-word : (table : List ℕ) (i : ℕ) → allOf isWord table ≡ true → isWord (getD table i 0) ≡ true
+every-word [] i all = refl
+every-word (w ∷ table) zero all = both-true (isWord w) (allOf isWord table) all .0
+every-word (w ∷ table) (suc i) all = every-word table i (both-true (isWord w) (allOf isWord table) all .1)
 
-module _ (table pool : List ℕ) (a : Accepted table pool) where
-  abbrev base : List Node
-  base = nodes table pool
+headed : (table pool : List ℕ) → allOf isWord table ≡ true → allOf isHeaded (nodes table pool) ≡ true
+unfolding node
+headed table pool all =
+    allOf-every isHeaded (nodes table pool) noNode (λ r i.
+    rw (node-nodes table pool r (rw (sym (length-nodes table pool)) i), every-word table (WIDTH * r + TYPE) all, every-word table (WIDTH * r + PARENT) all, every-word table (WIDTH * r + MAKER) all)
+    refl)
 
-  few : length base ≤ MOST-ROWS
-  few = rw (length-nodes table pool) (few-rows table pool (a .size))
-
-  type-word : (r : ℕ) → r < length base → isWord (node base r .type) ≡ true
-  unfolding parentAllowed
-  type-word r i = go (parentRule (node base r .type)) refl
-    where
-      go : (o : Option ParentRule) → parentRule (node base r .type) ≡ o → isWord (node base r .type) ≡ true
-      go none e = absurd (true-not-false (rw e at (parent-allowed base (length pool) r (a .row r i))) refl)
-      go (some rule) e = rule-word (node base r .type) rule e
-
-  parent-word : (r : ℕ) → r < length base → isWord (node base r .parent) ≡ true
-  parent-word r i = go (parent-falls base (length pool) r (a .row r i))
-    where
-      go : (node base r .parent ≡ NONE) ⊎ (node base r .parent < r) → isWord (node base r .parent) ≡ true
-      go (inl e) = rw e refl
-      go (inr less) = let bound = few in lt-ltb (node base r .parent) 4294967296 (omega arith)
-
-  headed : allOf isHeaded base ≡ true
-  unfolding node
-  headed = allOf-every isHeaded base noNode (λ r i. true-both (type-word r i) (parent-word r i))
-
-  pub accepted-words : allOf isWord (words base) ≡ true
-  accepted-words = all-words pool base (a .size .poolBound) (input-pool table pool a) headed
-
--- Normalization gives no row another type or parent, and its new rows are declarations of rows of the table.
+-- Normalization gives no row another type, parent or maker, and its new rows are declarations of rows of the table, with their makers.
 headed-node : (ns : List Node) (r : ℕ) → allOf isHeaded ns ≡ true → isHeaded (node ns r) ≡ true
 unfolding node
 headed-node [] r h = refl
@@ -93,19 +78,19 @@ headed-node (n ∷ ns) zero h = both-true (isHeaded n) (allOf isHeaded ns) h .0
 headed-node (n ∷ ns) (suc r) h = headed-node ns r (both-true (isHeaded n) (allOf isHeaded ns) h .1)
 
 module _ (e : ℕ) (word : isWord e ≡ true) where
-  headed-new : (prefix uri : Field) → allOf isHeaded (newDeclaration e prefix uri ∷ []) ≡ true
-  headed-new prefix uri = rw word refl
+  headed-new : (n : Node) (prefix uri : Field) → isHeaded n ≡ true → allOf isHeaded (newDeclaration e (n .maker) prefix uri ∷ []) ≡ true
+  headed-new n prefix uri h = rw (word, head n h .maker) refl
 
-  headed-declare : (prefix uri : Field) (ns : List Node) → allOf isHeaded ns ≡ true → allOf isHeaded (declare e prefix uri ns) ≡ true
+  headed-declare : (n : Node) (prefix uri : Field) (ns : List Node) → isHeaded n ≡ true → allOf isHeaded ns ≡ true → allOf isHeaded (declare e (n .maker) prefix uri ns) ≡ true
   unfolding declare
-  headed-declare prefix uri ns h =
+  headed-declare n prefix uri ns m h =
       by-cases (anyOf (isOwnDeclaration e (prefix .bytes)) ns)
       (λ q.
       rw q
       (allOf-map isHeaded (revalued e (prefix .bytes) uri) ns
-      (λ n t. by-cases (isOwnDeclaration e (prefix .bytes) n) (λ s. rw s t) (λ s. rw s t))
+      (λ d t. by-cases (isOwnDeclaration e (prefix .bytes) d) (λ s. rw s t) (λ s. rw s t))
       h))
-      (λ q. rw q (allOf-append isHeaded ns (newDeclaration e prefix uri ∷ []) h (headed-new prefix uri)))
+      (λ q. rw q (allOf-append isHeaded ns (newDeclaration e (n .maker) prefix uri ∷ []) h (headed-new n prefix uri m)))
 
   headed-element : (ns : List Node) → allOf isHeaded ns ≡ true → allOf isHeaded (repairElement e ns) ≡ true
   unfolding repairElement
@@ -114,27 +99,28 @@ module _ (e : ℕ) (word : isWord e ≡ true) where
       (λ q.
       by-cases (isEmpty (uriBytes (inScopeUri (scopeAt ns e) [])))
       (λ t. rw (q, t) h)
-      (λ t. rw (q, t) (headed-declare noField noField ns h)))
+      (λ t. rw (q, t) (headed-declare (node ns e) noField noField ns (headed-node ns e h) h)))
       (λ q.
       by-cases (sameBytes (uriBytes (inScopeUri (scopeAt ns e) (node ns e .prefix .bytes))) (node ns e .uri .bytes))
       (λ t. rw (q, t) h)
-      (λ t. rw (q, t) (headed-declare (node ns e .prefix) (node ns e .uri) ns h)))
+      (λ t. rw (q, t) (headed-declare (node ns e) (node ns e .prefix) (node ns e .uri) ns (headed-node ns e h) h)))
 
-  headed-rows : (prefix uri : Field) (repair : Repair) → allOf isHeaded (newRows e prefix uri repair) ≡ true
+  headed-rows : (n : Node) (prefix uri : Field) (repair : Repair) → isHeaded n ≡ true → allOf isHeaded (newRows e (n .maker) prefix uri repair) ≡ true
   unfolding newRows
-  headed-rows prefix uri keep = refl
-  headed-rows prefix uri (takeDeclared found) = refl
-  headed-rows prefix uri (takeBuiltIn bytes) = refl
-  headed-rows prefix uri declareOwn = headed-new prefix uri
-  headed-rows prefix uri (makeNumbered bytes) = headed-new prefix uri
+  headed-rows n prefix uri keep m = refl
+  headed-rows n prefix uri (takeDeclared found) m = refl
+  headed-rows n prefix uri (takeBuiltIn bytes) m = refl
+  headed-rows n prefix uri declareOwn m = headed-new n prefix uri m
+  headed-rows n prefix uri (makeNumbered bytes) m = headed-new n prefix uri m
 
   headed-perform : (a : ℕ) (repair : Repair) (s : State) → allOf isHeaded (s .rows) ≡ true → allOf isHeaded (perform e a repair s .rows) ≡ true
   unfolding perform
   headed-perform a repair s h =
       let n = node (s .rows) a in
       let after = newPrefix (s .pool) n repair in
-      allOf-append isHeaded (set (s .rows) a (withPrefix after n)) (newRows e after (n .uri) repair)
-      (allOf-set isHeaded (s .rows) a (withPrefix after n) h (headed-node (s .rows) a h)) (headed-rows after (n .uri) repair)
+      let m = headed-node (s .rows) a h in
+      allOf-append isHeaded (set (s .rows) a (withPrefix after n)) (newRows e (n .maker) after (n .uri) repair)
+      (allOf-set isHeaded (s .rows) a (withPrefix after n) h m) (headed-rows n after (n .uri) repair m)
 
   headed-attributes : (count : ℕ) (s : State) → allOf isHeaded (s .rows) ≡ true → allOf isHeaded (repairAttributes e count s .rows) ≡ true
   unfolding repairAttributes repairAttribute
@@ -165,11 +151,12 @@ module _ (table pool : List ℕ) (a : Accepted table pool) where
       let ns = nodes table pool in
       pool-rows (length ns) (length ns) (record { rows = ns; pool = pool }) (le-refl (length ns)) (record { long = le-refl (length ns); fit = input-pool table pool a }) .fit
 
-  normal-headed : allOf isHeaded (normalForm (nodes table pool) pool .rows) ≡ true
-  unfolding normalForm
-  normal-headed =
-      let ns = nodes table pool in
-      headed-normalized (length ns) (length ns) (record { rows = ns; pool = pool }) (few table pool a) (headed table pool a)
+  module _ (all : allOf isWord table ≡ true) where
+    normal-headed : allOf isHeaded (normalForm (nodes table pool) pool .rows) ≡ true
+    unfolding normalForm
+    normal-headed =
+        let ns = nodes table pool in
+        headed-normalized (length ns) (length ns) (record { rows = ns; pool = pool }) (rw (length-nodes table pool) (few-rows table pool (a .size))) (headed table pool all)
 
-  pub normal-words : length (normalForm (nodes table pool) pool .pool) ≤ MOST-BYTES → allOf isWord (words (normalForm (nodes table pool) pool .rows)) ≡ true
-  normal-words small = all-words (normalForm (nodes table pool) pool .pool) (normalForm (nodes table pool) pool .rows) small normal-fits normal-headed
+    pub normal-words : length (normalForm (nodes table pool) pool .pool) ≤ MOST-BYTES → allOf isWord (words (normalForm (nodes table pool) pool .rows)) ≡ true
+    normal-words small = all-words (normalForm (nodes table pool) pool .pool) (normalForm (nodes table pool) pool .rows) small normal-fits normal-headed

@@ -10,8 +10,9 @@ use Rattle.rules.specs.Lists.{allOf}
 use Rattle.rules.specs.Table.{WIDTH, rowCount}
 use Rattle.rules.specs.Answers.{filledNumber, filledRows, filledBytes}
 use Rattle.rules.specs.declared.Checked.{Checked}
-use Rattle.little_endian.specs.Numbers.{isByte}
+use Rattle.little_endian.specs.Numbers.{isByte, isWord}
 use Rattle.rules.specs.Outputs.{Outcome}
+use Rattle.bundles.specs.Bundles.{VERSION, bundleVersion}
 use Rattle.bundles.specs.Operations.{WriteOutcome, bundleRead, tableWritten, bundleChecked, bundleNormalized}
 use Rattle.bundles.specs.Demands.{bundleDone, resultBundle}
 
@@ -33,19 +34,19 @@ pub record Writes (o : WriteOutcome) (bundle : List ℕ) : Type 0 where
 -- What normalization writes passes the check.
 abbrev pub NormalizedPasses : Type 0
 NormalizedPasses =
-    (bytes : List ℕ) (size : ℕ) → T (bundleDone (bundleNormalized bytes size)) →
+    (bytes : List ℕ) (size : ℕ) → allOf isByte bytes ≡ true → T (bundleDone (bundleNormalized bytes size)) →
     bundleChecked (resultBundle (bundleNormalized bytes size)) ≡ Checked.Accepted
 
 -- What was written is read back, into outputs that have room.
 abbrev pub ReadsWritten : Type 0
 ReadsWritten =
-    (table pool : List ℕ) (size tableSize poolSize : ℕ) → T (bundleDone (tableWritten table pool size)) →
+    (table pool : List ℕ) (size tableSize poolSize : ℕ) → allOf isWord table ≡ true → T (bundleDone (tableWritten table pool size)) →
     rowCount table ≤ tableSize / WIDTH → length pool ≤ poolSize →
     Reads (bundleRead (resultBundle (tableWritten table pool size)) tableSize poolSize) table pool
 
--- What was read is written back, every byte, into an output that has room.
+-- What was read of a bundle of the version that is written is written back, every byte, into an output that has room.
 abbrev pub WritesRead : Type 0
 WritesRead =
-    (bytes : List ℕ) (tableSize poolSize size : ℕ) → allOf isByte bytes ≡ true → (table pool : List ℕ) →
+    (bytes : List ℕ) (tableSize poolSize size : ℕ) → allOf isByte bytes ≡ true → bundleVersion bytes ≡ VERSION → (table pool : List ℕ) →
     Reads (bundleRead bytes tableSize poolSize) table pool → length bytes ≤ size →
     Writes (tableWritten table pool size) bytes

@@ -29,5 +29,5 @@ pub record Opens (bytes buffer : List ℕ) (n : ℕ) : Type 0 where
   pub few : n ≤ MOST-ROWS
   pub short : length (bundlePool bytes) ≤ MOST-BYTES
   pub room : WIDTH * n ≤ length buffer
-  pub inside : poolStart n ≤ length bytes
+  pub inside : poolStart bytes ≤ length bytes
   pub table : take (WIDTH * n) buffer ≡ bundleTable bytes

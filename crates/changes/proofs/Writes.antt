@@ -31,11 +31,14 @@ pub noted-for :
 unfolding notedFor
 noted-for notes new r prefix uri one two three four = rw (four, three, two, one, prefix, uri) refl
 
--- The words of a new declaration, by the places that were read.
+-- The words of a new declaration, by the maker and the places that were read.
 pub written-as :
-    (t : List ℕ) (at owner : ℕ) {p p′ u u′ : Place} {t′ : List ℕ} → t′ ≡ written t at (declarationWords owner p u) → p ≡ p′ → u ≡ u′
-    → t′ ≡ written t at (declarationWords owner p′ u′)
-written-as t at owner made prefix uri = made ∙ ap₂ (λ (x y : Place). written t at (declarationWords owner x y)) prefix uri
+    (t : List ℕ) (at owner : ℕ) {m m′ : ℕ} {p p′ u u′ : Place} {t′ : List ℕ} → t′ ≡ written t at (declarationWords owner m p u) → m ≡ m′ → p ≡ p′ → u ≡ u′
+    → t′ ≡ written t at (declarationWords owner m′ p′ u′)
+written-as t at owner {m′ = m′} {p = p} {u = u} made maker prefix uri =
+    made
+    ∙ ap (λ (x : ℕ). written t at (declarationWords owner x p u)) maker
+    ∙ ap₂ (λ (x y : Place). written t at (declarationWords owner m′ x y)) prefix uri
 
 -- A name behind the pool's bytes, as a prefix.
 pub named-xml :

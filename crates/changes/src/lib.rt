@@ -2,7 +2,7 @@
 ghost use mathlib.Core.Path.{_≡_};
 ghost use Prim.Native.Nat.{_+_, _*_, _≤_, _<_};
 ghost use lib.ListN.{length, take};
-ghost use Rattle.rules.specs.Table.{WIDTH, MOST-ROWS, PREFIX, LOCAL-NAME, URI, VALUE, xmlPrefix};
+ghost use Rattle.rules.specs.Table.{WIDTH, MOST-ROWS, PREFIX, LOCAL-NAME, URI, VALUE, MAKER, word, xmlPrefix};
 ghost use Rattle.rules.specs.Normalization.{numberedPrefix};
 ghost use Rattle.rows.specs.Reading.{placeAt};
 ghost use Rattle.notes.specs.Notes as noting;
@@ -50,18 +50,19 @@ pub fn take_prefix(
     notes::set_name(notes, attribute, notes::PREFIX, number);
 }
 
-// Writes the declaration that a row needs behind the rows: of its prefix, as its URI.
+// Writes the declaration that a row needs behind the rows: of its prefix, as its URI, and by its maker.
 pub fn write_declaration(table: &mut [u32], notes: &mut [u16], owner: Row, row: Row, rows: usize)
     requires { ⌜ (row .0 < rows) × (rows < MOST-ROWS) ⌝ }
     requires { ⌜ (WIDTH * rows + WIDTH ≤ length (now table)) × (noting.NOTES * rows + noting.NOTES ≤ length (now notes)) ⌝ }
-    ensures { λ _. ⌜ now (table .exit) ≡ written (now (table .entry)) (WIDTH * rows) (declarationWords (owner .0) (placeAt (take (WIDTH * rows) (now (table .entry))) (row .0) PREFIX) (placeAt (take (WIDTH * rows) (now (table .entry))) (row .0) URI)) ⌝ }
+    ensures { λ _. ⌜ now (table .exit) ≡ written (now (table .entry)) (WIDTH * rows) (declarationWords (owner .0) (word (take (WIDTH * rows) (now (table .entry))) (row .0) MAKER) (placeAt (take (WIDTH * rows) (now (table .entry))) (row .0) PREFIX) (placeAt (take (WIDTH * rows) (now (table .entry))) (row .0) URI)) ⌝ }
     ensures { λ _. ⌜ now (notes .exit) ≡ notedFor (now (notes .entry)) rows (row .0) ⌝ }
 {
     let words = &table[..rules::WIDTH * rows];
     let prefix = rows::place(words, row, rules::PREFIX);
     let uri = rows::place(words, row, rules::URI);
+    let maker = rows::maker(words, row);
     let new = Row(rows as u32);
-    additions::append_row(table, new, owner, prefix, uri);
+    additions::append_row(table, new, owner, maker, prefix, uri);
     note_declaration(notes, new, row);
 }
 

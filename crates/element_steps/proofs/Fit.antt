@@ -27,9 +27,9 @@ tree-core : (ns ms : List Node) → length ms ≡ length ns → ((r : ℕ) → r
 tree-core ns ms size core tree = tree-kept ns ms tree (omega arith) core (λ r past within. absurd (omega arith))
 
 -- One declaration more, of an element.
-tree-append : (ns : List Node) (e : ℕ) (prefix uri : Field) → e < length ns → isElement (node ns e .type) ≡ true → Tree ns → Tree (ns ++ newDeclaration e prefix uri ∷ [])
-tree-append ns e prefix uri within element tree =
-    let d = newDeclaration e prefix uri in
+tree-append : (ns : List Node) (e maker : ℕ) (prefix uri : Field) → e < length ns → isElement (node ns e .type) ≡ true → Tree ns → Tree (ns ++ newDeclaration e maker prefix uri ∷ [])
+tree-append ns e maker prefix uri within element tree =
+    let d = newDeclaration e maker prefix uri in
     let size = length-append ns (d ∷ []) in
     tree-kept ns (ns ++ d ∷ []) tree (omega arith) (λ r less. core-equal (node-append ns (d ∷ []) r less))
     (λ r past less.
@@ -37,13 +37,13 @@ tree-append ns e prefix uri within element tree =
     let is : node (ns ++ d ∷ []) r ≡ d = ap (node (ns ++ d ∷ [])) last ∙ node-last ns d in
     rw is (refl, within, element))
 
-tree-declare : (ns : List Node) (e : ℕ) (prefix uri : Field) → e < length ns → isElement (node ns e .type) ≡ true → Tree ns → Tree (declare e prefix uri ns)
+tree-declare : (ns : List Node) (e maker : ℕ) (prefix uri : Field) → e < length ns → isElement (node ns e .type) ≡ true → Tree ns → Tree (declare e maker prefix uri ns)
 unfolding declare
-tree-declare ns e prefix uri within element tree =
+tree-declare ns e maker prefix uri within element tree =
     let f = revalued e (prefix .bytes) uri in
     by-cases (anyOf (isOwnDeclaration e (prefix .bytes)) ns)
     (λ q. rw q (tree-core ns (map f ns) (length-map ns f) (λ r less. rw (node-map f ns r less) (revalued-core e (prefix .bytes) uri (node ns r))) tree))
-    (λ q. rw q (tree-append ns e prefix uri within element tree))
+    (λ q. rw q (tree-append ns e maker prefix uri within element tree))
 
 tree-element : (ns : List Node) (e : ℕ) → e < length ns → isElement (node ns e .type) ≡ true → Tree ns → Tree (repairElement e ns)
 unfolding repairElement
@@ -52,19 +52,19 @@ tree-element ns e within element tree =
     (λ q.
     by-cases (isEmpty (uriBytes (inScopeUri (scopeAt ns e) [])))
     (λ t. rw (q, t) tree)
-    (λ t. rw (q, t) (tree-declare ns e noField noField within element tree)))
+    (λ t. rw (q, t) (tree-declare ns e (node ns e .maker) noField noField within element tree)))
     (λ q.
     by-cases (sameBytes (uriBytes (inScopeUri (scopeAt ns e) (node ns e .prefix .bytes))) (node ns e .uri .bytes))
     (λ t. rw (q, t) tree)
-    (λ t. rw (q, t) (tree-declare ns e (node ns e .prefix) (node ns e .uri) within element tree)))
+    (λ t. rw (q, t) (tree-declare ns e (node ns e .maker) (node ns e .prefix) (node ns e .uri) within element tree)))
 
-tree-new : (ms : List Node) (e : ℕ) (prefix uri : Field) (repair : Repair) → e < length ms → isElement (node ms e .type) ≡ true → Tree ms → Tree (ms ++ newRows e prefix uri repair)
+tree-new : (ms : List Node) (e maker : ℕ) (prefix uri : Field) (repair : Repair) → e < length ms → isElement (node ms e .type) ≡ true → Tree ms → Tree (ms ++ newRows e maker prefix uri repair)
 unfolding newRows
-tree-new ms e prefix uri keep within element tree = rw (append-nil ms) tree
-tree-new ms e prefix uri (takeDeclared f) within element tree = rw (append-nil ms) tree
-tree-new ms e prefix uri (takeBuiltIn b) within element tree = rw (append-nil ms) tree
-tree-new ms e prefix uri declareOwn within element tree = tree-append ms e prefix uri within element tree
-tree-new ms e prefix uri (makeNumbered b) within element tree = tree-append ms e prefix uri within element tree
+tree-new ms e maker prefix uri keep within element tree = rw (append-nil ms) tree
+tree-new ms e maker prefix uri (takeDeclared f) within element tree = rw (append-nil ms) tree
+tree-new ms e maker prefix uri (takeBuiltIn b) within element tree = rw (append-nil ms) tree
+tree-new ms e maker prefix uri declareOwn within element tree = tree-append ms e maker prefix uri within element tree
+tree-new ms e maker prefix uri (makeNumbered b) within element tree = tree-append ms e maker prefix uri within element tree
 
 tree-attribute : (total e a : ℕ) (s : State) → a < total → total ≤ length (s .rows) → e < length (s .rows) → isElement (node (s .rows) e .type) ≡ true → Tree (s .rows) → Tree (repairAttribute e a s .rows)
 unfolding repairAttribute perform
@@ -79,7 +79,7 @@ tree-attribute total e a s small long within element tree =
     let kept = kept-prefix total e ns a f small long (eqb-true (n .type) ATTRIBUTE (both .0)) (eqb-true (n .parent) e (both .1)) in
     let ms = set ns a (withPrefix f n) in
     let size : length ms ≡ length ns = length-set ns a (withPrefix f n) in
-    rw q (tree-new ms e f (n .uri) repair (omega arith) (rw (kept .core e within .type) element) (tree-core ns ms size (kept .core) tree)))
+    rw q (tree-new ms e (n .maker) f (n .uri) repair (omega arith) (rw (kept .core e within .type) element) (tree-core ns ms size (kept .core) tree)))
     (λ q. rw q tree)
 
 pub fit-element : (total r : ℕ) (s : State) → r < total → node (s .rows) r .type ≡ ELEMENT → Fit total s → Fit total (record { rows = repairElement r (s .rows); pool = s .pool })

@@ -28,29 +28,29 @@ element-more e ns =
     (λ q.
     by-cases (isEmpty (uriBytes (inScopeUri (scopeAt ns e) [])))
     (λ t. rw (q, t) (omega arith))
-    (λ t. rw (q, t) (declared noField noField)))
+    (λ t. rw (q, t) (declared (node ns e .maker) noField noField)))
     (λ q.
     by-cases (sameBytes (uriBytes (inScopeUri (scopeAt ns e) (node ns e .prefix .bytes))) (node ns e .uri .bytes))
     (λ t. rw (q, t) (omega arith))
-    (λ t. rw (q, t) (declared (node ns e .prefix) (node ns e .uri))))
+    (λ t. rw (q, t) (declared (node ns e .maker) (node ns e .prefix) (node ns e .uri))))
   where
-    declared : (prefix uri : Field) → length (declare e prefix uri ns) ≤ length ns + 1
-    declared prefix uri =
+    declared : (maker : ℕ) (prefix uri : Field) → length (declare e maker prefix uri ns) ≤ length ns + 1
+    declared maker prefix uri =
         by-cases (anyOf (isOwnDeclaration e (prefix .bytes)) ns)
         (λ q. rw (q, length-map ns (revalued e (prefix .bytes) uri)) (omega arith))
         (λ q. rw q (simp length-append (omega arith)))
 
-new-more : (e : ℕ) (prefix uri : Field) (repair : Repair) → length (newRows e prefix uri repair) ≤ 1
+new-more : (e maker : ℕ) (prefix uri : Field) (repair : Repair) → length (newRows e maker prefix uri repair) ≤ 1
 unfolding newRows
-new-more e prefix uri keep = omega arith
-new-more e prefix uri (takeDeclared f) = omega arith
-new-more e prefix uri (takeBuiltIn b) = omega arith
-new-more e prefix uri declareOwn = omega arith
-new-more e prefix uri (makeNumbered b) = omega arith
+new-more e maker prefix uri keep = omega arith
+new-more e maker prefix uri (takeDeclared f) = omega arith
+new-more e maker prefix uri (takeBuiltIn b) = omega arith
+new-more e maker prefix uri declareOwn = omega arith
+new-more e maker prefix uri (makeNumbered b) = omega arith
 
 perform-more : (e a : ℕ) (repair : Repair) (s : State) → length (perform e a repair s .rows) ≤ length (s .rows) + 1
 unfolding perform
-perform-more e a repair s = simp (length-append, length-set) (omega (arith, new-more e (newPrefix (s .pool) (node (s .rows) a) repair) (node (s .rows) a .uri) repair))
+perform-more e a repair s = simp (length-append, length-set) (omega (arith, new-more e (node (s .rows) a .maker) (newPrefix (s .pool) (node (s .rows) a) repair) (node (s .rows) a .uri) repair))
 
 -- The elements among the first k rows.
 abbrev isTyped : ℕ → Node → Bool

@@ -33,18 +33,20 @@ turned true false true = refl
 turned true false false = refl
 turned false v b = refl
 
-kept-core : (a b level : Bool) → (not a || not b || level) ≡ false → ((a && b) ≡ true) × (level ≡ false)
-kept-core true true level e = (refl, e)
-kept-core true false level e = absurd (true≢false e)
-kept-core false b level e = absurd (true≢false e)
+not-all : (a b c : Bool) → (not a || not b || not c) ≡ not ((a && b) && c)
+not-all true true c = refl
+not-all true false c = refl
+not-all false b c = refl
 
-lost-core : (a b level l u v p : Bool) → (not a || not b || level) ≡ true → false ≡ (not level && (((((a && b) && l) && u) && v) && p))
-lost-core true true true l u v p e = refl
-lost-core true true false l u v p e = absurd (true≢false (sym e))
-lost-core true false true l u v p e = refl
-lost-core true false false l u v p e = refl
-lost-core false b true l u v p e = refl
-lost-core false b false l u v p e = refl
+kept-core : (a level : Bool) → (not a || level) ≡ false → (a ≡ true) × (level ≡ false)
+kept-core true level e = (refl, e)
+kept-core false level e = absurd (true≢false e)
+
+lost-core : (a level l u v p : Bool) → (not a || level) ≡ true → false ≡ (not level && ((((a && l) && u) && v) && p))
+lost-core true true l u v p e = refl
+lost-core true false l u v p e = absurd (true≢false (sym e))
+lost-core false true l u v p e = refl
+lost-core false false l u v p e = refl
 
 -- A text has no names.
 text-bare : (poolLength r : ℕ) (n : Node) → fieldsRefusal poolLength r n ≡ none → n .type ≡ TEXT → (n .local .size ≡ 0) × (n .uri .size ≡ 0)
@@ -82,7 +84,7 @@ module _ (n m : Node) where
   value = eqb (n .type) DECLARATION || sameBytes (m .value .bytes) (n .value .bytes)
 
   abbrev core : Bool
-  core = eqb (m .type) (n .type) && eqb (m .parent) (n .parent)
+  core = eqb (m .type) (n .type) && eqb (m .parent) (n .parent) && eqb (m .maker) (n .maker)
 
   keeps : core ≡ true → keepsRow n m ≡ (names && value)
   unfolding keepsRow
@@ -90,18 +92,23 @@ module _ (n m : Node) where
       rw e (turned (sameBytes (m .local .bytes) (n .local .bytes) && sameBytes (m .uri .bytes) (n .uri .bytes)) value bare)
 
   -- What is read of them.
-  module _ {kind owner kind′ owner′ : ℕ} (t : kind ≡ n .type) (o : owner ≡ n .parent) (t′ : kind′ ≡ m .type) (o′ : owner′ ≡ m .parent) {level : Bool} (l : level ≡ isLevel1 kind) where
-    pub other-core : (not (eqb kind′ kind) || not (eqb owner′ owner) || level) ≡ true → false ≡ (not (isLevel1 (n .type)) && keepsRow n m)
-    unfolding keepsRow
-    other-core e =
-        lost-core (eqb (m .type) (n .type)) (eqb (m .parent) (n .parent)) (isLevel1 (n .type)) _ _ _ _ (rw (l, t, o, t′, o′) at e)
+  module _ {kind owner kind′ owner′ maker′ maker : ℕ} (t : kind ≡ n .type) (o : owner ≡ n .parent) (t′ : kind′ ≡ m .type) (o′ : owner′ ≡ m .parent) (k′ : maker′ ≡ m .maker) (k : maker ≡ n .maker) {level : Bool} (l : level ≡ isLevel1 kind) where
+    abbrev differs : Bool
+    differs = not (eqb kind′ kind) || not (eqb owner′ owner) || not (eqb maker′ maker) || level
 
-    module _ (e : (not (eqb kind′ kind) || not (eqb owner′ owner) || level) ≡ false) where
+    read : differs ≡ (not core || isLevel1 (n .type))
+    read = rw (l, t, o, t′, o′, k′, k) (ap (λ (b : Bool). b || isLevel1 (n .type)) (not-all (eqb (m .type) (n .type)) (eqb (m .parent) (n .parent)) (eqb (m .maker) (n .maker))))
+
+    pub other-core : differs ≡ true → false ≡ (not (isLevel1 (n .type)) && keepsRow n m)
+    unfolding keepsRow
+    other-core e = lost-core core (isLevel1 (n .type)) _ _ _ _ (sym read ∙ e)
+
+    module _ (e : differs ≡ false) where
       parts : (core ≡ true) × (isLevel1 (n .type) ≡ false)
-      parts = kept-core (eqb (m .type) (n .type)) (eqb (m .parent) (n .parent)) (isLevel1 (n .type)) (rw (l, t, o, t′, o′) at e)
+      parts = kept-core core (isLevel1 (n .type)) (sym read ∙ e)
 
       pub same-type : kind ≡ m .type
-      same-type = t ∙ sym (eqb-true (m .type) (n .type) (both-true (eqb (m .type) (n .type)) (eqb (m .parent) (n .parent)) (parts .0) .0))
+      same-type = t ∙ sym (eqb-true (m .type) (n .type) (both-true _ _ (both-true _ _ (parts .0) .0) .0))
 
       pub other-names : names ≡ false → false ≡ (not (isLevel1 (n .type)) && keepsRow n m)
       other-names e′ = rw (parts .1, keeps (parts .0), e′) refl

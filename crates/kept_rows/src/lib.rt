@@ -120,6 +120,7 @@ fn keeps_row(
     let owner = rows::parent(original, row);
     if (rows::kind(proposal, row) != kind)
         | (rows::parent(proposal, row).0 != owner.0)
+        | (rows::maker(proposal, row) != rows::maker(original, row))
         | rows::is_level1(kind)
     {
         return false;

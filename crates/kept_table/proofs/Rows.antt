@@ -7,7 +7,7 @@ use mathlib.Core.List.{List, [], _∷_}
 use lib.Dec.{eqb}
 use lib.ListN.{getD}
 use borrow.Author.Tests.{eqb-true, eq-eqb, ne-eqb, not-true, not-false}
-use Rattle.rules.specs.Table.{NONE, TYPE, PREFIX, LOCAL-NAME, URI, VALUE, word}
+use Rattle.rules.specs.Table.{NONE, TYPE, PREFIX, LOCAL-NAME, URI, VALUE, MAKER, word}
 use Rattle.rules.specs.declared.Place.{Place}
 use Rattle.rows.specs.Reading.{placeAt}
 use Rattle.kept_table.specs.Kept.{renumbered, rowWords}
@@ -24,10 +24,10 @@ module _ (numbers : List ℕ) (parent : ℕ) where
 
 -- The words.
 pub words-read :
-    (table : List ℕ) (r : ℕ) {kind parent moved : ℕ} {prefix local uri value : Place} → kind ≡ word table r TYPE → parent ≡ moved → prefix ≡ placeAt table r PREFIX → local ≡ placeAt table r LOCAL-NAME
-    → uri ≡ placeAt table r URI → value ≡ placeAt table r VALUE
-    → (kind ∷ parent ∷ prefix .offset .0 ∷ prefix .length ∷ local .offset .0 ∷ local .length ∷ uri .offset .0 ∷ uri .length ∷ value .offset .0 ∷ value .length ∷ []) ≡ rowWords table r moved
-words-read table r k p a b c d = rw (k, p, a, b, c, d) refl
+    (table : List ℕ) (r : ℕ) {kind parent moved maker : ℕ} {prefix local uri value : Place} → kind ≡ word table r TYPE → parent ≡ moved → prefix ≡ placeAt table r PREFIX → local ≡ placeAt table r LOCAL-NAME
+    → uri ≡ placeAt table r URI → value ≡ placeAt table r VALUE → maker ≡ word table r MAKER
+    → (kind ∷ parent ∷ prefix .offset .0 ∷ prefix .length ∷ local .offset .0 ∷ local .length ∷ uri .offset .0 ∷ uri .length ∷ value .offset .0 ∷ value .length ∷ maker ∷ []) ≡ rowWords table r moved
+words-read table r k p a b c d m = rw (k, p, a, b, c, d, m) refl
 
 -- The fate.
 module _ (fate : ℕ) {dropped : Bool} (d : dropped ≡ not (eqb fate 0)) where

@@ -61,6 +61,7 @@ fn write_row(
         uri.length,
         value.offset.0,
         value.length,
+        rows::maker(table, row),
     ];
     buffers::write_rows(out, kept, &words);
     Row(kept.0 + 1)

@@ -7,12 +7,11 @@ use mathlib.Core.List.{List, [], _∷_, _++_}
 use native.Mathlib.Omega.{arith}
 use lib.ListN.{length, take, drop, length-drop}
 use lib.Seq.{length-take-le}
-use lib.Dec.{ltb}
-use borrow.Author.Tests.{ltb-true}
+use borrow.Author.Tests.{ltb-true, lt-ltb}
 use Rattle.rules.specs.Lists.{allOf}
 use Rattle.rules.specs.Table.{part}
 use Rattle.rules.proofs.Lists.{both-true, true-both}
-use Rattle.little_endian.specs.Numbers.{isByte, bytesOf, numberOf, numberAt, wordBytes, wordsFrom}
+use Rattle.little_endian.specs.Numbers.{isByte, isWord, bytesOf, numberOf, numberAt, wordBytes, wordsFrom}
 
 -- Numbers.
 
@@ -39,35 +38,33 @@ bytes-number (b ∷ bs) all =
     let high : (b + 256 * numberOf bs) / 256 ≡ numberOf bs = omega arith in
     rw (low, high, bytes-number bs (both-true (isByte b) (allOf isByte bs) all .1)) refl
 
-pub number-small : (bs : List ℕ) → allOf isByte bs ≡ true → numberOf bs < most (length bs)
-number-small [] all = omega arith
-number-small (b ∷ bs) all =
+pub number-small : (size : ℕ) (bs : List ℕ) → allOf isByte bs ≡ true → numberOf (take size bs) < most size
+number-small zero bs all = omega arith
+number-small (suc size) [] all = let later = number-small size [] refl in omega arith
+number-small (suc size) (b ∷ bs) all =
     let here : b < 256 = ltb-true b 256 (both-true (isByte b) (allOf isByte bs) all .0) in
-    let later = number-small bs (both-true (isByte b) (allOf isByte bs) all .1) in
+    let later = number-small size bs (both-true (isByte b) (allOf isByte bs) all .1) in
     omega arith
 
--- Parts of bytes are bytes.
-pub all-drop : (n : ℕ) (l : List ℕ) → allOf isByte l ≡ true → allOf isByte (drop n l) ≡ true
-all-drop zero l e = e
-all-drop (suc n) [] e = refl
-all-drop (suc n) (x ∷ l) e = all-drop n l (both-true (isByte x) (allOf isByte l) e .1)
+-- Parts of bytes are bytes, and parts of words are words.
+module _ (test : ℕ → Bool) where
+  pub all-drop : (n : ℕ) (l : List ℕ) → allOf test l ≡ true → allOf test (drop n l) ≡ true
+  all-drop zero l e = e
+  all-drop (suc n) [] e = refl
+  all-drop (suc n) (x ∷ l) e = all-drop n l (both-true (test x) (allOf test l) e .1)
 
-all-take : (n : ℕ) (l : List ℕ) → allOf isByte l ≡ true → allOf isByte (take n l) ≡ true
-all-take zero l e = refl
-all-take (suc n) [] e = refl
-all-take (suc n) (x ∷ l) e = true-both (both-true (isByte x) (allOf isByte l) e .0) (all-take n l (both-true (isByte x) (allOf isByte l) e .1))
+  pub all-take : (n : ℕ) (l : List ℕ) → allOf test l ≡ true → allOf test (take n l) ≡ true
+  all-take zero l e = refl
+  all-take (suc n) [] e = refl
+  all-take (suc n) (x ∷ l) e = true-both (both-true (test x) (allOf test l) e .0) (all-take n l (both-true (test x) (allOf test l) e .1))
 
 -- A number that was read is written as the bytes that it was read from.
 pub number-back : (bytes : List ℕ) (at size : ℕ) → allOf isByte bytes ≡ true → at + size ≤ length bytes → (n : ℕ) → n ≡ numberAt bytes at size → bytesOf size n ≡ part bytes at size
 number-back bytes at size all room n is =
     let long : length (part bytes at size) ≡ size = length-take-le size (drop at bytes) (simp length-drop (omega arith)) in
-    rw is (ap (λ (k : ℕ). bytesOf k (numberOf (part bytes at size))) (sym long) ∙ bytes-number (part bytes at size) (all-take size (drop at bytes) (all-drop at bytes all)))
+    rw is (ap (λ (k : ℕ). bytesOf k (numberOf (part bytes at size))) (sym long) ∙ bytes-number (part bytes at size) (all-take isByte size (drop at bytes) (all-drop isByte at bytes all)))
 
 -- Words.
-
--- The number is a word.
-abbrev pub isWord : ℕ → Bool
-isWord w = ltb w 4294967296
 
 pub length-wordBytes : (table : List ℕ) → length (wordBytes table) ≡ 4 * length table
 length-wordBytes [] = omega arith
@@ -106,6 +103,12 @@ words-read (suc count) (a ∷ b ∷ c ∷ d ∷ l) all room =
     ap (λ (n : ℕ). wordBytes (wordsFrom (suc count) (a ∷ b ∷ c ∷ d ∷ l)) ++ drop n (a ∷ b ∷ c ∷ d ∷ l)) more
     ∙ ap (λ (f : List ℕ). (f ++ wordBytes (wordsFrom count l)) ++ drop (4 * count) l) bytes
     ∙ ap (λ (t : List ℕ). a ∷ b ∷ c ∷ d ∷ t) (words-read count l (fourth .1) (omega arith))
+
+pub words-small : (count : ℕ) (l : List ℕ) → allOf isByte l ≡ true → allOf isWord (wordsFrom count l) ≡ true
+unfolding wordsFrom
+words-small zero l all = refl
+words-small (suc count) l all =
+    true-both (lt-ltb (numberOf (take 4 l)) 4294967296 (omega (arith, number-small 4 l all))) (words-small count (drop 4 l) (all-drop isByte 4 l all))
 
 pub length-wordsFrom : (count : ℕ) (l : List ℕ) → length (wordsFrom count l) ≡ count
 unfolding wordsFrom

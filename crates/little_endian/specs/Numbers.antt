@@ -7,9 +7,12 @@ use lib.Dec.{ltb}
 use Rattle.rules.specs.Lists.{gathered}
 use Rattle.rules.specs.Table.{part}
 
--- The number is a byte.
+-- The number is a byte; it is a word.
 abbrev pub isByte : ℕ → Bool
 isByte b = ltb b 256
+
+abbrev pub isWord : ℕ → Bool
+isWord w = ltb w 4294967296
 
 -- A number as so many bytes.
 abbrev pub bytesOf : ℕ → ℕ → List ℕ

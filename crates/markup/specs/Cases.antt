@@ -6,17 +6,13 @@ use mathlib.Core.Option.{Option, none, some}
 use lib.ListN.{length, replicate}
 use lib.Dec.{ltb}
 use Rattle.rules.specs.Lists.{allOf, gathered, ascii}
+use Rattle.rules.specs.Cases.{row, rowBy}
 use Rattle.rules.specs.Table.{NONE, nodes}
 use Rattle.bundles.specs.Cases.{writeGives, sameLists}
 use Rattle.markup.specs.Trees.{Content, nothing, text, element, Expanded, meantTree}
 use Rattle.markup.specs.Writing.{elementToWrite, textWritten}
 use Rattle.markup.specs.Namespaces.{read}
 use Rattle.markup.specs.ReadingBack.{joined}
-
--- A row: type, parent, and the offset and length of prefix, local name, URI and value.
-abbrev row : ℕ → ℕ → ℕ × ℕ → ℕ × ℕ → ℕ × ℕ → ℕ × ℕ → List ℕ
-row type parent prefix local uri value =
-    type ∷ parent ∷ prefix .0 ∷ prefix .1 ∷ local .0 ∷ local .1 ∷ uri .0 ∷ uri .1 ∷ value .0 ∷ value .1 ∷ []
 
 abbrev no? : ℕ × ℕ
 no? = (0, 0)
@@ -67,6 +63,8 @@ unfoldable pub cases : List Case
 cases =
     -- example A normalized
     record { table = row 1 NONE no? (0, 1) (1, 1) no? ++ row 13 0 no? no? no? (1, 1); pool = ascii "aU"; start = 0; size = 17; number = 0; at = 0; text = (ascii "<a xmlns=" ++ (34 ∷ []) ++ ascii "U" ++ (34 ∷ []) ++ ascii "></a>") }
+    -- of two makers, whom no text tells
+    ∷ record { table = rowBy 7 1 NONE no? (0, 1) (1, 1) no? ++ rowBy NONE 13 0 no? no? no? (1, 1); pool = ascii "aU"; start = 0; size = 17; number = 0; at = 0; text = (ascii "<a xmlns=" ++ (34 ∷ []) ++ ascii "U" ++ (34 ∷ []) ++ ascii "></a>") }
     -- with room left over
     ∷ record { table = row 1 NONE no? (0, 1) (1, 1) no? ++ row 13 0 no? no? no? (1, 1); pool = ascii "aU"; start = 0; size = 20; number = 0; at = 0; text = (ascii "<a xmlns=" ++ (34 ∷ []) ++ ascii "U" ++ (34 ∷ []) ++ ascii "></a>") }
     -- one byte too few: 22

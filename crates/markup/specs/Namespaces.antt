@@ -34,7 +34,7 @@ abbrev pub bytesField : List ℕ → Field
 bytesField bytes = record { offset = 0; size = length bytes; bytes = bytes }
 
 abbrev pub isLegalBinding : Binding → Bool
-isLegalBinding b = not (badDeclaration (newDeclaration 0 (bytesField (b .0)) (bytesField (b .1))))
+isLegalBinding b = not (badDeclaration (newDeclaration 0 0 (bytesField (b .0)) (bytesField (b .1))))
 
 -- No element of a list is the same as an earlier one.
 abbrev pub allDifferent : {A : Type 0} → (A → A → Bool) → List A → Bool

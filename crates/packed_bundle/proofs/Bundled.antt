@@ -7,14 +7,14 @@ use mathlib.Core.List.{List}
 use mathlib.Core.Option.{none, some}
 use native.Mathlib.Omega.{arith}
 use borrow.Author.Tests.{lt-ltb, le-ltb}
-use lib.ListN.{length, take, drop, length-map}
+use lib.ListN.{length, take, length-map}
 use Rattle.rules.specs.Table.{WIDTH, MOST-ROWS, MOST-BYTES, rowCount, nodes, words}
 use Rattle.rules.specs.Refusals.{checkRefusal}
 use Rattle.rules.specs.Normalization.{tooManyRows, tooManyBytes, roomRefusal}
 use Rattle.rules.specs.declared.Refusal.{Refusal}
 use Rattle.rules.proofs.Table.{length-nodes, length-words}
 use Rattle.rules.proofs.Accepted.{unrefused, few-rows}
-use Rattle.bundles.specs.Bundles.{HEADER, poolStart}
+use Rattle.bundles.specs.Bundles.{HEADER, bundlePool}
 use Rattle.bundles.specs.Opening.{openingRefusal, Opens}
 use Rattle.bundles.specs.Operations.{writeRefused, writeDone, bundleWritten, stateBundle}
 use Rattle.bundles.proofs.Writing.{length-bundle}
@@ -71,6 +71,6 @@ unfolding bundlePacked
 pack-not-open bytes x e size = over-refused bytes (writeRefused size) (λ t p. packedInto t p size) x e (λ s. into-refused _ _ size Refusal.Size s)
 
 -- And where it does not: that of the table and the pool.
-pub pack-open : (bytes buffer : List ℕ) (n : ℕ) → Opens bytes buffer n → (table pool : List ℕ) → table ≡ take (WIDTH * n) buffer → pool ≡ drop (poolStart n) bytes → (size : ℕ) → packedInto table pool size ≡ bundlePacked bytes size
+pub pack-open : (bytes buffer : List ℕ) (n : ℕ) → Opens bytes buffer n → (table pool : List ℕ) → table ≡ take (WIDTH * n) buffer → pool ≡ bundlePool bytes → (size : ℕ) → packedInto table pool size ≡ bundlePacked bytes size
 unfolding bundlePacked
 pack-open bytes buffer n is table pool first rest size = ap (λ (t : List ℕ). packedInto t pool size) first ∙ over-open bytes buffer n is pool rest (writeRefused size) (λ t p. packedInto t p size)

@@ -149,7 +149,7 @@ module _ {table pool tables notes : List ℕ} {limit : ℕ} {spelling : ℕ → 
 
     pub going-ready : Ready table pool tables notes outTable spelling last limit r
     going-ready =
-        let size : length outTable ≡ T.WIDTH * r + (10 + length (words (drop (r + 1) (nodes table pool)) ++ rest)) =
+        let size : length outTable ≡ T.WIDTH * r + (T.WIDTH + length (words (drop (r + 1) (nodes table pool)) ++ rest)) =
         ap length standing ∙ length-append (words (packedForm (take r (nodes table pool)) .rows)) (wordsOf (nodeAt table pool r) ++ (words (drop (r + 1) (nodes table pool)) ++ rest))
         ∙ rw (front-length, length-append (wordsOf (nodeAt table pool r)) (words (drop (r + 1) (nodes table pool)) ++ rest)) refl
         in

@@ -39,7 +39,7 @@ module _ (names : List (List ℕ)) (n : Node) (prefix : Whole (n .prefix)) (loca
   packed-words :
       wordsOf (packedNode names n)
       ≡ n .type ∷ n .parent ∷ offsetIn names (n .prefix .bytes) ∷ n .prefix .size ∷ offsetIn names (n .local .bytes) ∷ n .local .size ∷ offsetIn names (n .uri .bytes) ∷ n .uri .size
-      ∷ offsetIn names (n .value .bytes) ∷ n .value .size ∷ []
+      ∷ offsetIn names (n .value .bytes) ∷ n .value .size ∷ n .maker ∷ []
   unfolding packedNode
   packed-words =
       rw (packed-field names (n .prefix), packed-field names (n .local), packed-field names (n .uri), packed-field names (n .value), prefix .sized, local .sized, uri .sized, value .sized) refl

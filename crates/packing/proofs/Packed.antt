@@ -59,7 +59,7 @@ module _ (names : List (List ℕ)) (n : Node) where
 
   pub agree : Agree n (packedNode names n)
   unfolding packedNode
-  agree = record { type = refl; parent = refl; bytes = sym bytes-of }
+  agree = record { type = refl; parent = refl; bytes = sym bytes-of; maker = refl }
 
   node-fits : allOf (isHeld names) (fieldBytes n) ≡ true → fitsIn (joined names) (packedNode names n) ≡ true
   unfolding fitsIn packedNode

@@ -56,6 +56,7 @@ packedNode names n =
       local = packedField names (n .local);
       uri = packedField names (n .uri);
       value = packedField names (n .value);
+      maker = n .maker;
     }
 
 -- The packed rows and the packed pool.

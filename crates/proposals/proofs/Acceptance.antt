@@ -59,7 +59,7 @@ levels-kept ns ms level2 unchanged =
         (λ q.
         let l = ltb-true r (length ns) q in
         let kept = both-true (ltb r (length ms)) (keepsRow (node ns r) (node ms r)) (not-false _ (none-below (isChanged ns ms) Refusal.Changed (length ns) (both .0) r l)) .1 in
-        let core = both-true _ _ (both-true _ _ (both-true _ _ (both-true _ _ (both-true _ _ kept .0) .0) .0) .0) .0 in
+        let core = both-true _ _ (both-true _ _ (both-true _ _ (both-true _ _ (both-true _ _ (both-true _ _ kept .0) .0) .0) .0) .0) .0 in
         let type : node ms r .type ≡ node ns r .type = eqb-true (node ms r .type) (node ns r .type) core in
         ap isLevel1 type ∙ none-below (isLevel1Row ns) Refusal.ProposalLevel1 (length ns) level2 r l)
         (λ q.
@@ -124,13 +124,15 @@ module _ (table pool table′ pool′ : List ℕ) (g : Good table pool table′ 
       let k3 = both-true _ _ (k2 .0) in
       let k4 = both-true _ _ (k3 .0) in
       let k5 = both-true _ _ (k4 .0) in
-      let type = eqb-true (m .type) (n .type) (k5 .0) in
-      let parent = eqb-true (m .parent) (n .parent) (k5 .1) in
+      let k6 = both-true _ _ (k5 .0) in
+      let type = eqb-true (m .type) (n .type) (k6 .0) in
+      let parent = eqb-true (m .parent) (n .parent) (k6 .1) in
       record {
         type = type;
         parent = parent;
         uri = sameBytes-equal (m .uri .bytes) (n .uri .bytes) (k3 .1);
         local = sameBytes-equal (m .local .bytes) (n .local .bytes) (k4 .1);
+        maker = eqb-true (m .maker) (n .maker) (k5 .1);
         meaning = true-T (bound-means r (lt-of-lt-of-le i longer) (rw (type, parent) b));
       }
 

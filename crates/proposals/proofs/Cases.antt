@@ -11,15 +11,16 @@ use Rattle.rules.specs.Lookups.{climb, elementsFrom, ownDeclarations, scopeOf, 
 use Rattle.rules.specs.Demands.{elementMeansIn, elementMeans, attributeMeansIn, attributeMeans, means, isBound}
 use Rattle.proposals.specs.Proposals.{failed, keepsRow, isChanged, isForeign, isUnresolved, judged, proposalRefusal, proposalChecked, bundleCheckRefusal, bundleProposalChecked}
 use Rattle.little_endian.specs.Numbers.{wordsFrom}
-use Rattle.bundles.specs.Bundles.{writeBundle, wrongMark, otherVersion, badLengths, bundleRefusal, bundleTable, bundlePool}
+use Rattle.bundles.specs.Bundles.{writeBundle, isOld, rowBytes, wrongMark, otherVersion, badLengths, bundleRefusal, widened, bundleTable, bundlePool}
+use Rattle.bundles.specs.Versions.{narrowed, oldBundle}
 use Rattle.proposals.specs.Cases.{passes, cases, overBundles, passesOver, allPass}
 
 -- those of 40 and 41, by themselves
-pub failing-pass : T (allOf passes (drop 15 cases))
-unfolding xmlUri xmlnsUri xmlPrefix xmlnsPrefix nodes node numberOf checkNumber following wellFormed badSize parentRule parentAllowed secondElement badStructure mustBeEmpty fieldsRefusal encodingsRefusal goodName badNames badNamespace badDeclaration isDouble faults conflicts rowRefusal checkRefusal climb elementsFrom ownDeclarations scopeOf scopeAt inScopeUri elementMeansIn elementMeans attributeMeansIn attributeMeans means isBound failed keepsRow isChanged isForeign isUnresolved judged proposalRefusal proposalChecked wordsFrom writeBundle wrongMark otherVersion badLengths bundleRefusal bundleTable bundlePool bundleCheckRefusal bundleProposalChecked passes cases
+pub failing-pass : T (allOf passes (drop 19 cases))
+unfolding xmlUri xmlnsUri xmlPrefix xmlnsPrefix nodes node numberOf checkNumber following wellFormed badSize parentRule parentAllowed secondElement badStructure mustBeEmpty fieldsRefusal encodingsRefusal goodName badNames badNamespace badDeclaration isDouble faults conflicts rowRefusal checkRefusal climb elementsFrom ownDeclarations scopeOf scopeAt inScopeUri elementMeansIn elementMeans attributeMeansIn attributeMeans means isBound failed keepsRow isChanged isForeign isUnresolved judged proposalRefusal proposalChecked wordsFrom writeBundle isOld rowBytes wrongMark otherVersion badLengths bundleRefusal widened bundleTable bundlePool narrowed oldBundle bundleCheckRefusal bundleProposalChecked passes cases
 failing-pass = tt
 
 -- all of them
 pub all-pass : T allPass
-unfolding xmlUri xmlnsUri xmlPrefix xmlnsPrefix nodes node numberOf checkNumber following wellFormed badSize parentRule parentAllowed secondElement badStructure mustBeEmpty fieldsRefusal encodingsRefusal goodName badNames badNamespace badDeclaration isDouble faults conflicts rowRefusal checkRefusal climb elementsFrom ownDeclarations scopeOf scopeAt inScopeUri elementMeansIn elementMeans attributeMeansIn attributeMeans means isBound failed keepsRow isChanged isForeign isUnresolved judged proposalRefusal proposalChecked wordsFrom writeBundle wrongMark otherVersion badLengths bundleRefusal bundleTable bundlePool bundleCheckRefusal bundleProposalChecked passes cases overBundles passesOver allPass
+unfolding xmlUri xmlnsUri xmlPrefix xmlnsPrefix nodes node numberOf checkNumber following wellFormed badSize parentRule parentAllowed secondElement badStructure mustBeEmpty fieldsRefusal encodingsRefusal goodName badNames badNamespace badDeclaration isDouble faults conflicts rowRefusal checkRefusal climb elementsFrom ownDeclarations scopeOf scopeAt inScopeUri elementMeansIn elementMeans attributeMeansIn attributeMeans means isBound failed keepsRow isChanged isForeign isUnresolved judged proposalRefusal proposalChecked wordsFrom writeBundle isOld rowBytes wrongMark otherVersion badLengths bundleRefusal widened bundleTable bundlePool narrowed oldBundle bundleCheckRefusal bundleProposalChecked passes cases overBundles passesOver allPass
 all-pass = tt

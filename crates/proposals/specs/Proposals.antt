@@ -32,11 +32,11 @@ isLevel1Row ns r = isLevel1 (node ns r .type)
 abbrev pub isOwnerless : Node → Bool
 isOwnerless n = eqb (n .type) ATTRIBUTE && eqb (n .parent) NONE
 
--- The row keeps its type, its parent and the bytes of its local name, URI and value, save that a declaration's value may differ;
--- an ownerless attribute keeps its prefix.
+-- The row keeps its type, its parent, its maker and the bytes of its local name, URI and value, save that a declaration's value may
+-- differ; an ownerless attribute keeps its prefix.
 unfoldable pub keepsRow : Node → Node → Bool
 keepsRow n m =
-    eqb (m .type) (n .type) && eqb (m .parent) (n .parent)
+    eqb (m .type) (n .type) && eqb (m .parent) (n .parent) && eqb (m .maker) (n .maker)
     && sameBytes (m .local .bytes) (n .local .bytes) && sameBytes (m .uri .bytes) (n .uri .bytes)
     && (eqb (n .type) DECLARATION || sameBytes (m .value .bytes) (n .value .bytes))
     && (not (isOwnerless n) || sameBytes (m .prefix .bytes) (n .prefix .bytes))

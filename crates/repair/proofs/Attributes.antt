@@ -177,14 +177,14 @@ module _ {table pool notes tops path : List ℕ} {rows bytes names limit free a 
   made-declared q =
       performed q
       ∙ ap₂ (λ (l : List Node) (p : List ℕ). record { rows = l; pool = p })
-      (ap (λ (l : List Node). l ++ newDeclaration e (n .prefix) (n .uri) ∷ []) (set-getD ns a noNode)) (append-nil (s .pool))
+      (ap (λ (l : List Node). l ++ newDeclaration e (n .maker) (n .prefix) (n .uri) ∷ []) (set-getD ns a noNode)) (append-nil (s .pool))
 
   pub made-numbered : (b : List ℕ) → repairOf S n ≡ makeNumbered b → repairAttribute e a s ≡ declaredFor e a (prefixed a (endField s b) b s)
   unfolding perform newPrefix newRows newBytes
   made-numbered b q =
       let m = withPrefix (endField s b) n in
       performed q
-      ∙ ap (λ (x : Node). record { rows = set ns a m ++ newDeclaration e (x .prefix) (x .uri) ∷ []; pool = s .pool ++ b }) (sym (node-set-same ns a m (h .attribute .inside)))
+      ∙ ap (λ (x : Node). record { rows = set ns a m ++ newDeclaration e (x .maker) (x .prefix) (x .uri) ∷ []; pool = s .pool ++ b }) (sym (node-set-same ns a m (h .attribute .inside)))
 
   -- NS prefixes in use stay so.
   own-more : (rest : List Node) × (ownDeclarations (repairAttribute e a s .rows) e ≡ ownDeclarations ns e ++ rest)
@@ -192,7 +192,7 @@ module _ {table pool notes tops path : List ℕ} {rows bytes names limit free a 
   own-more =
       let repair = repairOf S n in
       let f = newPrefix (s .pool) n repair in
-      let new = newRows e f (n .uri) repair in (
+      let new = newRows e (n .maker) f (n .uri) repair in (
         filtered (isDeclarationOf e) new,
         ap (λ (x : State). ownDeclarations (x .rows) e) (performed refl)
             ∙ filtered-append (isDeclarationOf e) (set ns a (withPrefix f n)) new

@@ -74,8 +74,8 @@ module _ {table pool notes tops path : List ℕ} {rows bytes names limit e : ℕ
   unfolding elementMeans
   means = element-settled notes tops path scope e n (h .element .named) prefix uri (λ m bytes is. same-number (h .good .numbers .spelled) is (h .good .numbers .xml)) top
 
-  repaired : (b : Bool) → elementSettled notes tops path e ≡ b → repairElement e ns ≡ cond b ns (declare e (n .prefix) (n .uri) ns)
-  repaired b is = element-by-meaning ns e (h .element .plain) ∙ ap (λ (m : Bool). cond m ns (declare e (n .prefix) (n .uri) ns)) (sym means ∙ is)
+  repaired : (b : Bool) → elementSettled notes tops path e ≡ b → repairElement e ns ≡ cond b ns (declare e (n .maker) (n .prefix) (n .uri) ns)
+  repaired b is = element-by-meaning ns e (h .element .plain) ∙ ap (λ (m : Bool). cond m ns (declare e (n .maker) (n .prefix) (n .uri) ns)) (sym means ∙ is)
 
   -- Buffers that hold what the step makes.
   done : {table′ notes′ tops′ path′ : List ℕ} {made : State} → made ≡ elementStep e s → length tops′ ≡ length tops → Good table′ pool notes′ tops′ path′ rows bytes names limit (e + 1) made → SameAttributes notes notes′
@@ -92,7 +92,7 @@ module _ {table pool notes tops path : List ℕ} {rows bytes names limit e : ℕ
   element-kept told is = done (ap (λ (l : List Node). record { rows = l; pool = s .pool }) (sym (repaired true (sym told ∙ is)))) refl (h .good) (λ r k late inside. refl)
 
   module _ {b : Bool} (told : b ≡ elementSettled notes tops path e) (other : b ≡ false) {own : ℕ} (read : own ≡ ownTop (part (h .good)) notes tops e) where
-    by-declaring : repairElement e ns ≡ declare e (n .prefix) (n .uri) ns
+    by-declaring : repairElement e ns ≡ declare e (n .maker) (n .prefix) (n .uri) ns
     by-declaring = repaired false (sym told ∙ other)
 
     -- The declaration on top of the element's prefix.
@@ -177,7 +177,7 @@ module _ {table pool notes tops path : List ℕ} {rows bytes names limit e : ℕ
           go none is = is
           go (some m) is = absurd (missed m is)
 
-      as-appended : repairElement e ns ≡ ns ++ newDeclaration e (n .prefix) (n .uri) ∷ []
+      as-appended : repairElement e ns ≡ ns ++ newDeclaration e (n .maker) (n .prefix) (n .uri) ∷ []
       unfolding declare ownDeclarations
       as-appended =
           by-declaring

@@ -4,7 +4,7 @@ ghost use mathlib.Core.Path.{_≡_};
 ghost use Prim.Native.Nat.{_<_};
 ghost use lib.ListN.{length, getD};
 ghost use lib.Dec.{ltb};
-ghost use Rattle.rules.specs.Table.{WIDTH, TYPE, PARENT, word, fieldAt, rowCount, isElement, isLevel1};
+ghost use Rattle.rules.specs.Table.{WIDTH, TYPE, PARENT, MAKER, word, fieldAt, rowCount, isElement, isLevel1};
 ghost use Rattle.rows.specs.Reading.{HasField, placeAt};
 use rules::Offset;
 use rules::Place;
@@ -45,6 +45,14 @@ pub fn parent(table: &[u32], row: Row) -> Row
     ensures { λ r. ⌜ r .0 ≡ word (now (table .entry)) (row .0) PARENT ⌝ }
 {
     Row(word(table, row, rules::PARENT))
+}
+
+// The maker of a row.
+pub fn maker(table: &[u32], row: Row) -> u32
+    requires { ⌜ row .0 < rowCount (now table) ⌝ }
+    ensures { λ r. ⌜ r ≡ word (now (table .entry)) (row .0) MAKER ⌝ }
+{
+    word(table, row, rules::MAKER)
 }
 
 // Where a field of a row stands in the pool.

@@ -102,22 +102,22 @@ New e ns ms = (r : ℕ) → length ns ≤ r → r < length ms → (node ms r .ty
 new-none : (e : ℕ) (ns ms : List Node) → length ms ≤ length ns → New e ns ms
 new-none e ns ms h r l k = absurd (omega arith)
 
-new-one : (e : ℕ) (ns ms : List Node) (prefix uri : Field) → length ms ≡ length ns → New e ns (ms ++ newDeclaration e prefix uri ∷ [])
+new-one : (e maker : ℕ) (ns ms : List Node) (prefix uri : Field) → length ms ≡ length ns → New e ns (ms ++ newDeclaration e maker prefix uri ∷ [])
 unfolding node
-new-one e ns ms prefix uri same r l k =
-    let long = length-append ms (newDeclaration e prefix uri ∷ []) in
+new-one e maker ns ms prefix uri same r l k =
+    let long = length-append ms (newDeclaration e maker prefix uri ∷ []) in
     let z : r ≡ length ms = omega arith in
-    let last : node (ms ++ newDeclaration e prefix uri ∷ []) r ≡ newDeclaration e prefix uri =
-    ap (node (ms ++ newDeclaration e prefix uri ∷ [])) z ∙ getD-append-seam ms (newDeclaration e prefix uri) [] noNode
+    let last : node (ms ++ newDeclaration e maker prefix uri ∷ []) r ≡ newDeclaration e maker prefix uri =
+    ap (node (ms ++ newDeclaration e maker prefix uri ∷ [])) z ∙ getD-append-seam ms (newDeclaration e maker prefix uri) [] noNode
     in
     (ap (λ (n : Node). n .type) last, ap (λ (n : Node). n .parent) last)
 
-new-declare : (e : ℕ) (prefix uri : Field) (ns : List Node) → New e ns (declare e prefix uri ns)
+new-declare : (e maker : ℕ) (prefix uri : Field) (ns : List Node) → New e ns (declare e maker prefix uri ns)
 unfolding declare
-new-declare e prefix uri ns =
+new-declare e maker prefix uri ns =
     by-cases (anyOf (isOwnDeclaration e (prefix .bytes)) ns)
     (λ q. rw q (new-none e ns (map (revalued e (prefix .bytes) uri) ns) (rw (length-map ns (revalued e (prefix .bytes) uri)) (le-refl (length ns)))))
-    (λ q. rw q (new-one e ns ns prefix uri refl))
+    (λ q. rw q (new-one e maker ns ns prefix uri refl))
 
 new-element : (e : ℕ) (ns : List Node) → New e ns (repairElement e ns)
 unfolding repairElement
@@ -126,11 +126,11 @@ new-element e ns =
     (λ q.
     by-cases (isEmpty (uriBytes (inScopeUri (scopeAt ns e) [])))
     (λ t. rw (q, t) (new-none e ns ns (le-refl (length ns))))
-    (λ t. rw (q, t) (new-declare e noField noField ns)))
+    (λ t. rw (q, t) (new-declare e (node ns e .maker) noField noField ns)))
     (λ q.
     by-cases (sameBytes (uriBytes (inScopeUri (scopeAt ns e) (node ns e .prefix .bytes))) (node ns e .uri .bytes))
     (λ t. rw (q, t) (new-none e ns ns (le-refl (length ns))))
-    (λ t. rw (q, t) (new-declare e (node ns e .prefix) (node ns e .uri) ns)))
+    (λ t. rw (q, t) (new-declare e (node ns e .maker) (node ns e .prefix) (node ns e .uri) ns)))
 
 module _ (e a : ℕ) (s : State) where
   abbrev changed : Field → List Node
@@ -148,10 +148,10 @@ module _ (e a : ℕ) (s : State) where
   new-perform (takeDeclared found) = new-nothing found
   new-perform (takeBuiltIn bytes) = new-nothing (record { offset = length (s .pool); size = length bytes; bytes = bytes })
   new-perform declareOwn =
-      new-one e (s .rows) (changed (node (s .rows) a .prefix)) (node (s .rows) a .prefix) (node (s .rows) a .uri) (same-length (node (s .rows) a .prefix))
+      new-one e (node (s .rows) a .maker) (s .rows) (changed (node (s .rows) a .prefix)) (node (s .rows) a .prefix) (node (s .rows) a .uri) (same-length (node (s .rows) a .prefix))
   new-perform (makeNumbered bytes) =
       let after : Field = record { offset = length (s .pool); size = length bytes; bytes = bytes } in
-      new-one e (s .rows) (changed after) after (node (s .rows) a .uri) (same-length after)
+      new-one e (node (s .rows) a .maker) (s .rows) (changed after) after (node (s .rows) a .uri) (same-length after)
 
   new-attribute : New e (s .rows) (repairAttribute e a s .rows)
   unfolding repairAttribute

@@ -16,7 +16,7 @@ use Rattle.rules.specs.Lists.{isOneOf, isEmpty, sameBytes}
 use Rattle.rules.specs.Table.{MOST-ROWS, NONE, ELEMENT, ATTRIBUTE, DECLARATION, LEVEL1-ELEMENT, Field, Node, noNode, nodes, node, isElement, isLevel1}
 use Rattle.rules.specs.Lookups.{isDeclarationOf, ownDeclarations, scopeAt, inScopeUri, uriBytes}
 use Rattle.rules.specs.Normalization.{normalizeRows, normalForm, level1Refusal, normalized}
-use Rattle.rules.specs.Demands.{resultRows, elementMeansIn, elementMeans, attributeMeansIn, attributeMeans, means, isBound, Meaning, fieldBytes, Agree, upFrom, selfAndAncestors, concerns, AgreeAt, addedDeclarations, ResultsAgreeAt, Independence}
+use Rattle.rules.specs.Demands.{resultRows, elementMeansIn, elementMeans, attributeMeansIn, attributeMeans, means, isBound, Meaning, fieldBytes, bytesAndMaker, Agree, upFrom, selfAndAncestors, concerns, AgreeAt, addedDeclarations, ResultsAgreeAt, Independence}
 use Rattle.rules.proofs.Lists.{by-cases, both-true, true-both, either-left, either-right, T-true, true-T, true-not-false, not-true, equal-sameBytes, allOf-every, filtered-alike}
 use Rattle.rules.specs.Refusals.{refusedIf}
 use Rattle.rules.specs.declared.Refusal.{Refusal}
@@ -131,6 +131,7 @@ meaning table pool tableSize poolSize t r i b =
       parent = c .parent;
       uri = ap (λ (f : Field). f .bytes) (c .uri);
       local = ap (λ (f : Field). f .bytes) (c .local);
+      maker = c .maker;
       meaning = true-T (bound-case table pool a (s .level2) r i (T-true (isBound (node (nodes table pool) r)) b));
     })
 
@@ -180,8 +181,8 @@ up-same P ns ms closed same (suc steps) r p =
     (λ t. rw t refl))
 
 -- Agreement is equality but for places.
-rebuilt : ℕ → ℕ → List (List ℕ) → Node
-rebuilt type parent bytes =
+rebuilt : ℕ → ℕ → ℕ → List (List ℕ) → Node
+rebuilt maker type parent bytes =
     record {
       type = type;
       parent = parent;
@@ -189,19 +190,21 @@ rebuilt type parent bytes =
       local = record { offset = 0; size = 0; bytes = getD bytes 1 [] };
       uri = record { offset = 0; size = 0; bytes = getD bytes 2 [] };
       value = record { offset = 0; size = 0; bytes = getD bytes 3 [] };
+      maker = maker;
     }
 
-agree-forget : (n m : Node) → Agree n m → forget n ≡ forget m
+pub agree-forget : (n m : Node) → Agree n m → forget n ≡ forget m
 unfolding rebuilt
 agree-forget n m a =
-    ap (λ (t : ℕ). rebuilt t (n .parent) (fieldBytes n)) (a .type)
-    ∙ ap (λ (t : ℕ). rebuilt (m .type) t (fieldBytes n)) (a .parent)
-    ∙ ap (rebuilt (m .type) (m .parent)) (a .bytes)
+    ap (λ (t : ℕ). rebuilt (n .maker) t (n .parent) (fieldBytes n)) (a .type)
+    ∙ ap (λ (t : ℕ). rebuilt (n .maker) (m .type) t (fieldBytes n)) (a .parent)
+    ∙ ap (rebuilt (n .maker) (m .type) (m .parent)) (a .bytes)
+    ∙ ap (λ (t : ℕ). rebuilt t (m .type) (m .parent) (fieldBytes m)) (a .maker)
 
 forget-agree : (n m : Node) → forget n ≡ forget m → Agree n m
-forget-agree n m e = record { type = ap (λ (k : Node). k .type) e; parent = ap (λ (k : Node). k .parent) e; bytes = ap fieldBytes e }
+forget-agree n m e = record { type = ap (λ (k : Node). k .type) e; parent = ap (λ (k : Node). k .parent) e; bytes = ap fieldBytes e; maker = ap (λ (k : Node). k .maker) e }
 
-bytes-forgotten : (l : List Node) → map fieldBytes (map forget l) ≡ map fieldBytes l
+bytes-forgotten : (l : List Node) → map bytesAndMaker (map forget l) ≡ map bytesAndMaker l
 bytes-forgotten [] = refl
 bytes-forgotten (n ∷ l) = rw (bytes-forgotten l) refl
 
@@ -332,7 +335,7 @@ module _ (table pool table′ pool′ : List ℕ) (a : Accepted table pool) (a�
           rows = λ r i q. row-agrees r i (T-true (concerns ns e r) q);
           added = λ x p.
               sym (bytes-forgotten (addedDeclarations (length ns) (normalForm ns pool .rows) x))
-              ∙ ap (map fieldBytes) (both-rows .alike .added x (T-true (isOneOf (selfAndAncestors ns e) x) p))
+              ∙ ap (map bytesAndMaker) (both-rows .alike .added x (T-true (isOneOf (selfAndAncestors ns e) x) p))
               ∙ bytes-forgotten (addedDeclarations (length ns) (normalForm ms pool′ .rows) x);
         }
 

@@ -25,6 +25,7 @@ forget n =
       local = forgetField (n .local);
       uri = forgetField (n .uri);
       value = forgetField (n .value);
+      maker = n .maker;
     }
 
 abbrev pub forgetFound : Option Node → Option Node
@@ -145,13 +146,13 @@ new-prefix-forget pool a (takeBuiltIn bytes) = refl
 new-prefix-forget pool a declareOwn = refl
 new-prefix-forget pool a (makeNumbered bytes) = refl
 
-pub new-rows-forget : (e : ℕ) (prefix uri : Field) (repair : Repair) → map forget (newRows e prefix uri repair) ≡ newRows e (forgetField prefix) (forgetField uri) (forgetRepair repair)
+pub new-rows-forget : (e maker : ℕ) (prefix uri : Field) (repair : Repair) → map forget (newRows e maker prefix uri repair) ≡ newRows e maker (forgetField prefix) (forgetField uri) (forgetRepair repair)
 unfolding newRows
-new-rows-forget e prefix uri keep = refl
-new-rows-forget e prefix uri (takeDeclared found) = refl
-new-rows-forget e prefix uri (takeBuiltIn bytes) = refl
-new-rows-forget e prefix uri declareOwn = refl
-new-rows-forget e prefix uri (makeNumbered bytes) = refl
+new-rows-forget e maker prefix uri keep = refl
+new-rows-forget e maker prefix uri (takeDeclared found) = refl
+new-rows-forget e maker prefix uri (takeBuiltIn bytes) = refl
+new-rows-forget e maker prefix uri declareOwn = refl
+new-rows-forget e maker prefix uri (makeNumbered bytes) = refl
 
 pub revalued-forget : (e : ℕ) (prefix : List ℕ) (uri : Field) (n : Node) → forget (revalued e prefix uri n) ≡ revalued e prefix (forgetField uri) (forget n)
 revalued-forget e prefix uri n = by-cases (isOwnDeclaration e prefix n) (λ q. rw q refl) (λ q. rw q refl)

@@ -112,9 +112,9 @@ fits-node : (pool : List ℕ) (ns : List Node) (r : ℕ) → allOf (fitsIn pool)
 unfolding node
 fits-node pool ns r h i = fits pool (getD ns r noNode) (allOf-getD (fitsIn pool) ns noNode r h i)
 
-fits-declare : (pool : List ℕ) (e : ℕ) (prefix uri : Field) (ns : List Node) → inPool pool prefix ≡ true → inPool pool uri ≡ true → allOf (fitsIn pool) ns ≡ true → allOf (fitsIn pool) (declare e prefix uri ns) ≡ true
+fits-declare : (pool : List ℕ) (e maker : ℕ) (prefix uri : Field) (ns : List Node) → inPool pool prefix ≡ true → inPool pool uri ≡ true → allOf (fitsIn pool) ns ≡ true → allOf (fitsIn pool) (declare e maker prefix uri ns) ≡ true
 unfolding declare
-fits-declare pool e prefix uri ns p u h =
+fits-declare pool e maker prefix uri ns p u h =
     by-cases (anyOf (isOwnDeclaration e (prefix .bytes)) ns)
     (λ q.
     rw q
@@ -127,8 +127,8 @@ fits-declare pool e prefix uri ns p u h =
     h))
     (λ q.
     rw q
-    (allOf-append (fitsIn pool) ns (newDeclaration e prefix uri ∷ []) h
-    (true-both (fit pool (newDeclaration e prefix uri) (record { prefix = in-pool-none pool; local = p; uri = in-pool-none pool; value = u })) refl)))
+    (allOf-append (fitsIn pool) ns (newDeclaration e maker prefix uri ∷ []) h
+    (true-both (fit pool (newDeclaration e maker prefix uri) (record { prefix = in-pool-none pool; local = p; uri = in-pool-none pool; value = u })) refl)))
 
 pub fits-element : (pool : List ℕ) (e : ℕ) (ns : List Node) → e < length ns → allOf (fitsIn pool) ns ≡ true → allOf (fitsIn pool) (repairElement e ns) ≡ true
 unfolding repairElement
@@ -137,11 +137,11 @@ fits-element pool e ns i h =
     (λ q.
     by-cases (isEmpty (uriBytes (inScopeUri (scopeAt ns e) [])))
     (λ t. rw (q, t) h)
-    (λ t. rw (q, t) (fits-declare pool e noField noField ns (in-pool-none pool) (in-pool-none pool) h)))
+    (λ t. rw (q, t) (fits-declare pool e (node ns e .maker) noField noField ns (in-pool-none pool) (in-pool-none pool) h)))
     (λ q.
     by-cases (sameBytes (uriBytes (inScopeUri (scopeAt ns e) (node ns e .prefix .bytes))) (node ns e .uri .bytes))
     (λ t. rw (q, t) h)
-    (λ t. let f = fits-node pool ns e h i in rw (q, t) (fits-declare pool e (node ns e .prefix) (node ns e .uri) ns (f .prefix) (f .uri) h)))
+    (λ t. let f = fits-node pool ns e h i in rw (q, t) (fits-declare pool e (node ns e .maker) (node ns e .prefix) (node ns e .uri) ns (f .prefix) (f .uri) h)))
 
 -- What a repair takes from a declaration lies in the pool.
 abbrev Pooled : List ℕ → Repair → Type 0
@@ -183,13 +183,13 @@ pooled-prefix pool a (takeBuiltIn bytes) t h = in-pool-new pool bytes
 pooled-prefix pool a declareOwn t h = in-pool-grown pool [] (a .prefix) h
 pooled-prefix pool a (makeNumbered bytes) t h = in-pool-new pool bytes
 
-fits-new-rows : (pool : List ℕ) (e : ℕ) (prefix uri : Field) (repair : Repair) → inPool pool prefix ≡ true → inPool pool uri ≡ true → allOf (fitsIn pool) (newRows e prefix uri repair) ≡ true
+fits-new-rows : (pool : List ℕ) (e maker : ℕ) (prefix uri : Field) (repair : Repair) → inPool pool prefix ≡ true → inPool pool uri ≡ true → allOf (fitsIn pool) (newRows e maker prefix uri repair) ≡ true
 unfolding newRows
-fits-new-rows pool e prefix uri keep p u = refl
-fits-new-rows pool e prefix uri (takeDeclared found) p u = refl
-fits-new-rows pool e prefix uri (takeBuiltIn bytes) p u = refl
-fits-new-rows pool e prefix uri declareOwn p u = true-both (fit pool (newDeclaration e prefix uri) (record { prefix = in-pool-none pool; local = p; uri = in-pool-none pool; value = u })) refl
-fits-new-rows pool e prefix uri (makeNumbered bytes) p u = true-both (fit pool (newDeclaration e prefix uri) (record { prefix = in-pool-none pool; local = p; uri = in-pool-none pool; value = u })) refl
+fits-new-rows pool e maker prefix uri keep p u = refl
+fits-new-rows pool e maker prefix uri (takeDeclared found) p u = refl
+fits-new-rows pool e maker prefix uri (takeBuiltIn bytes) p u = refl
+fits-new-rows pool e maker prefix uri declareOwn p u = true-both (fit pool (newDeclaration e maker prefix uri) (record { prefix = in-pool-none pool; local = p; uri = in-pool-none pool; value = u })) refl
+fits-new-rows pool e maker prefix uri (makeNumbered bytes) p u = true-both (fit pool (newDeclaration e maker prefix uri) (record { prefix = in-pool-none pool; local = p; uri = in-pool-none pool; value = u })) refl
 
 fits-perform : (e a : ℕ) (repair : Repair) (s : State) → a < length (s .rows) → Pooled (s .pool) repair → allOf (fitsIn (s .pool)) (s .rows) ≡ true → allOf (fitsIn (perform e a repair s .pool)) (perform e a repair s .rows) ≡ true
 unfolding perform
@@ -200,20 +200,20 @@ fits-perform e a repair s i t h =
     let f = fits-node (s .pool) (s .rows) a h i in
     let g = fits pool′ n (fits-grown (s .pool) (newBytes repair) n (fit (s .pool) n f)) in
     let p = pooled-prefix (s .pool) n repair t (f .prefix) in
-    allOf-append (fitsIn pool′) (set (s .rows) a (withPrefix after n)) (newRows e after (n .uri) repair)
+    allOf-append (fitsIn pool′) (set (s .rows) a (withPrefix after n)) (newRows e (n .maker) after (n .uri) repair)
     (allOf-set (fitsIn pool′) (s .rows) a (withPrefix after n)
     (allOf-weaken (fitsIn (s .pool)) (fitsIn pool′) (fits-grown (s .pool) (newBytes repair)) (s .rows) h)
     (fit pool′ (withPrefix after n) (record { prefix = p; local = g .local; uri = g .uri; value = g .value })))
-    (fits-new-rows pool′ e after (n .uri) repair p (g .uri))
+    (fits-new-rows pool′ e (n .maker) after (n .uri) repair p (g .uri))
 
 -- What the rows and the pool keep throughout.
 pub record Pool (total : ℕ) (s : State) : Type 0 where
   pub long : total ≤ length (s .rows)
   pub fit : allOf (fitsIn (s .pool)) (s .rows) ≡ true
 
-longer-declare : (e : ℕ) (prefix uri : Field) (ns : List Node) → length ns ≤ length (declare e prefix uri ns)
+longer-declare : (e maker : ℕ) (prefix uri : Field) (ns : List Node) → length ns ≤ length (declare e maker prefix uri ns)
 unfolding declare
-longer-declare e prefix uri ns =
+longer-declare e maker prefix uri ns =
     by-cases (anyOf (isOwnDeclaration e (prefix .bytes)) ns)
     (λ q. rw (q, length-map ns (revalued e (prefix .bytes) uri)) (le-refl (length ns)))
     (λ q. rw (q, length-append) (omega arith))
@@ -225,11 +225,11 @@ longer-element e ns =
     (λ q.
     by-cases (isEmpty (uriBytes (inScopeUri (scopeAt ns e) [])))
     (λ t. rw (q, t) (le-refl (length ns)))
-    (λ t. rw (q, t) (longer-declare e noField noField ns)))
+    (λ t. rw (q, t) (longer-declare e (node ns e .maker) noField noField ns)))
     (λ q.
     by-cases (sameBytes (uriBytes (inScopeUri (scopeAt ns e) (node ns e .prefix .bytes))) (node ns e .uri .bytes))
     (λ t. rw (q, t) (le-refl (length ns)))
-    (λ t. rw (q, t) (longer-declare e (node ns e .prefix) (node ns e .uri) ns)))
+    (λ t. rw (q, t) (longer-declare e (node ns e .maker) (node ns e .prefix) (node ns e .uri) ns)))
 
 pub longer-perform : (e a : ℕ) (repair : Repair) (s : State) → length (s .rows) ≤ length (perform e a repair s .rows)
 unfolding perform

@@ -1,4 +1,4 @@
--- RULES 7, cases: M1 to M12, and before them one for each trap of RULES 8 that they leave out, the order of a row's fields, and 14 among them.
+-- RULES 7, cases: M1 to M12, and before them one for each trap of RULES 8 that they leave out, the order of a row's fields, 14 and makers among them.
 -- Each is an input, the sizes of the two outputs, and the whole outcome.
 use Prim.Native.Nat.{ℕ}
 use mathlib.Core.Bool.{Bool, _&&_}
@@ -32,10 +32,14 @@ gives c o = sameBytes (answerNumbers o) (c .answer) && sameBytes (o .table) (c .
 unfoldable pub passes : Case → Bool
 passes c = gives c (normalized (c .table) (c .pool) (c .tableSize) (c .poolSize))
 
--- A row: type, parent, and the offset and length of prefix, local name, URI and value.
-abbrev row : ℕ → ℕ → ℕ × ℕ → ℕ × ℕ → ℕ × ℕ → ℕ × ℕ → List ℕ
-row type parent prefix local uri value =
-    type ∷ parent ∷ prefix .0 ∷ prefix .1 ∷ local .0 ∷ local .1 ∷ uri .0 ∷ uri .1 ∷ value .0 ∷ value .1 ∷ []
+-- A row: the maker, the type, the parent, and the offset and length of prefix, local name, URI and value.
+abbrev pub rowBy : ℕ → ℕ → ℕ → ℕ × ℕ → ℕ × ℕ → ℕ × ℕ → ℕ × ℕ → List ℕ
+rowBy maker type parent prefix local uri value =
+    type ∷ parent ∷ prefix .0 ∷ prefix .1 ∷ local .0 ∷ local .1 ∷ uri .0 ∷ uri .1 ∷ value .0 ∷ value .1 ∷ maker ∷ []
+
+-- A row of maker 0.
+abbrev pub row : ℕ → ℕ → ℕ × ℕ → ℕ × ℕ → ℕ × ℕ → ℕ × ℕ → List ℕ
+row = rowBy 0
 
 -- An element and a namespace URI that is not declared.
 abbrev exampleA : List ℕ
@@ -93,50 +97,55 @@ namesabp = ascii "abpUV"
 unfoldable pub cases : List Case
 cases =
     -- the attribute's prefix is in scope with another URI: NS1
-    record { table = conflicting (2, 1); pool = namesabp; tableSize = 40; poolSize = 8; answer = 0 ∷ 0 ∷ 0 ∷ 4 ∷ 8 ∷ []; outTable = conflicting (5, 3) ++ row 13 0 (0, 0) (5, 3) (0, 0) (4, 1); outPool = namesabp ++ ascii "NS1" }
+    record { table = conflicting (2, 1); pool = namesabp; tableSize = 44; poolSize = 8; answer = 0 ∷ 0 ∷ 0 ∷ 4 ∷ 8 ∷ []; outTable = conflicting (5, 3) ++ row 13 0 (0, 0) (5, 3) (0, 0) (4, 1); outPool = namesabp ++ ascii "NS1" }
     -- a nearer declaration rebinds the prefix: NS1
-    ∷ record { table = rebound (0, 0); pool = namesabp; tableSize = 60; poolSize = 8; answer = 0 ∷ 0 ∷ 0 ∷ 6 ∷ 8 ∷ []; outTable = rebound (5, 3) ++ row 13 2 (0, 0) (5, 3) (0, 0) (3, 1); outPool = namesabp ++ ascii "NS1" }
+    ∷ record { table = rebound (0, 0); pool = namesabp; tableSize = 66; poolSize = 8; answer = 0 ∷ 0 ∷ 0 ∷ 6 ∷ 8 ∷ []; outTable = rebound (5, 3) ++ row 13 2 (0, 0) (5, 3) (0, 0) (3, 1); outPool = namesabp ++ ascii "NS1" }
     -- the default declaration does not serve an attribute: NS1
-    ∷ record { table = defaulted (0, 0); pool = namesabp; tableSize = 40; poolSize = 8; answer = 0 ∷ 0 ∷ 0 ∷ 4 ∷ 8 ∷ []; outTable = defaulted (5, 3) ++ row 13 0 (0, 0) (5, 3) (0, 0) (3, 1); outPool = namesabp ++ ascii "NS1" }
+    ∷ record { table = defaulted (0, 0); pool = namesabp; tableSize = 44; poolSize = 8; answer = 0 ∷ 0 ∷ 0 ∷ 4 ∷ 8 ∷ []; outTable = defaulted (5, 3) ++ row 13 0 (0, 0) (5, 3) (0, 0) (3, 1); outPool = namesabp ++ ascii "NS1" }
     -- a value with an offset past the pool and no length: 3 before 12
-    ∷ record { table = row 1 NONE (0, 0) (0, 1) (0, 0) (2, 0); pool = ascii "a"; tableSize = 10; poolSize = 1; answer = 3 ∷ 0 ∷ 8 ∷ 0 ∷ 0 ∷ []; outTable = replicate 10 0; outPool = replicate 1 0 }
+    ∷ record { table = row 1 NONE (0, 0) (0, 1) (0, 0) (2, 0); pool = ascii "a"; tableSize = 11; poolSize = 1; answer = 3 ∷ 0 ∷ 8 ∷ 0 ∷ 0 ∷ []; outTable = replicate 11 0; outPool = replicate 1 0 }
     -- 12 of the prefix before 3 of the local name
-    ∷ record { table = row 1 NONE (1, 0) (0, 2) (0, 0) (0, 0); pool = ascii "a"; tableSize = 10; poolSize = 1; answer = 12 ∷ 0 ∷ 2 ∷ 0 ∷ 0 ∷ []; outTable = replicate 10 0; outPool = replicate 1 0 }
+    ∷ record { table = row 1 NONE (1, 0) (0, 2) (0, 0) (0, 0); pool = ascii "a"; tableSize = 11; poolSize = 1; answer = 12 ∷ 0 ∷ 2 ∷ 0 ∷ 0 ∷ []; outTable = replicate 11 0; outPool = replicate 1 0 }
     -- a text: 3 of the value before 13 of the prefix
-    ∷ record { table = row 3 NONE (0, 1) (0, 0) (0, 0) (0, 2); pool = ascii "a"; tableSize = 10; poolSize = 1; answer = 3 ∷ 0 ∷ 8 ∷ 0 ∷ 0 ∷ []; outTable = replicate 10 0; outPool = replicate 1 0 }
+    ∷ record { table = row 3 NONE (0, 1) (0, 0) (0, 0) (0, 2); pool = ascii "a"; tableSize = 11; poolSize = 1; answer = 3 ∷ 0 ∷ 8 ∷ 0 ∷ 0 ∷ []; outTable = replicate 11 0; outPool = replicate 1 0 }
     -- a text: 13 of the local name before 13 of the URI
-    ∷ record { table = row 3 NONE (0, 0) (0, 1) (0, 1) (0, 0); pool = ascii "a"; tableSize = 10; poolSize = 1; answer = 13 ∷ 0 ∷ 4 ∷ 0 ∷ 0 ∷ []; outTable = replicate 10 0; outPool = replicate 1 0 }
+    ∷ record { table = row 3 NONE (0, 0) (0, 1) (0, 1) (0, 0); pool = ascii "a"; tableSize = 11; poolSize = 1; answer = 13 ∷ 0 ∷ 4 ∷ 0 ∷ 0 ∷ []; outTable = replicate 11 0; outPool = replicate 1 0 }
     -- a text: 14 of a value that ends within a sequence, though the pool goes on
-    ∷ record { table = row 3 NONE (0, 0) (0, 0) (0, 0) (0, 1); pool = 0xC3 ∷ 0xA9 ∷ []; tableSize = 10; poolSize = 1; answer = 14 ∷ 0 ∷ 8 ∷ 0 ∷ 0 ∷ []; outTable = replicate 10 0; outPool = replicate 1 0 }
+    ∷ record { table = row 3 NONE (0, 0) (0, 0) (0, 0) (0, 1); pool = 0xC3 ∷ 0xA9 ∷ []; tableSize = 11; poolSize = 1; answer = 14 ∷ 0 ∷ 8 ∷ 0 ∷ 0 ∷ []; outTable = replicate 11 0; outPool = replicate 1 0 }
     -- a text: 13 of the local name before 14 of the value
-    ∷ record { table = row 3 NONE (0, 0) (0, 1) (0, 0) (0, 1); pool = 0xFF ∷ []; tableSize = 10; poolSize = 1; answer = 13 ∷ 0 ∷ 4 ∷ 0 ∷ 0 ∷ []; outTable = replicate 10 0; outPool = replicate 1 0 }
+    ∷ record { table = row 3 NONE (0, 0) (0, 1) (0, 0) (0, 1); pool = 0xFF ∷ []; tableSize = 11; poolSize = 1; answer = 13 ∷ 0 ∷ 4 ∷ 0 ∷ 0 ∷ []; outTable = replicate 11 0; outPool = replicate 1 0 }
     -- an attribute without a name: 14 of the URI before 14 of the value and before 4
-    ∷ record { table = row 2 NONE (0, 0) (0, 0) (0, 1) (0, 1); pool = 0xFF ∷ []; tableSize = 10; poolSize = 1; answer = 14 ∷ 0 ∷ 6 ∷ 0 ∷ 0 ∷ []; outTable = replicate 10 0; outPool = replicate 1 0 }
+    ∷ record { table = row 2 NONE (0, 0) (0, 0) (0, 1) (0, 1); pool = 0xFF ∷ []; tableSize = 11; poolSize = 1; answer = 14 ∷ 0 ∷ 6 ∷ 0 ∷ 0 ∷ []; outTable = replicate 11 0; outPool = replicate 1 0 }
+    -- makers: an element in U of maker 7 and its attributes in V of maker 9 and in W of maker NONE; each added declaration takes that of
+    -- the row that needed it
+    ∷ record { table = rowBy 7 1 NONE (0, 0) (0, 1) (2, 1) (0, 0) ++ rowBy 9 2 0 (0, 0) (1, 1) (3, 1) (0, 0) ++ rowBy NONE 2 0 (0, 1) (1, 1) (4, 1) (0, 0); pool = ascii "abUVW"; tableSize = 66; poolSize = 8; answer = 0 ∷ 0 ∷ 0 ∷ 6 ∷ 8 ∷ []; outTable = rowBy 7 1 NONE (0, 0) (0, 1) (2, 1) (0, 0) ++ rowBy 9 2 0 (5, 3) (1, 1) (3, 1) (0, 0) ++ rowBy NONE 2 0 (0, 1) (1, 1) (4, 1) (0, 0) ++ rowBy 7 13 0 (0, 0) (0, 0) (0, 0) (2, 1) ++ rowBy 9 13 0 (0, 0) (5, 3) (0, 0) (3, 1) ++ rowBy NONE 13 0 (0, 0) (0, 1) (0, 0) (4, 1); outPool = ascii "abUVWNS1" }
+    -- a declaration that is changed keeps its maker
+    ∷ record { table = rowBy 7 1 NONE (0, 0) (0, 1) (1, 1) (0, 0) ++ rowBy 5 13 0 (0, 0) (0, 0) (0, 0) (2, 1); pool = ascii "aUV"; tableSize = 22; poolSize = 3; answer = 0 ∷ 0 ∷ 0 ∷ 2 ∷ 3 ∷ []; outTable = rowBy 7 1 NONE (0, 0) (0, 1) (1, 1) (0, 0) ++ rowBy 5 13 0 (0, 0) (0, 0) (0, 0) (1, 1); outPool = ascii "aUV" }
     -- M1: A
-    ∷ record { table = exampleA; pool = ascii "aU"; tableSize = 20; poolSize = 2; answer = 0 ∷ 0 ∷ 0 ∷ 2 ∷ 2 ∷ []; outTable = exampleA ++ row 13 0 (0, 0) (0, 0) (0, 0) (1, 1); outPool = ascii "aU" }
+    ∷ record { table = exampleA; pool = ascii "aU"; tableSize = 22; poolSize = 2; answer = 0 ∷ 0 ∷ 0 ∷ 2 ∷ 2 ∷ []; outTable = exampleA ++ row 13 0 (0, 0) (0, 0) (0, 0) (1, 1); outPool = ascii "aU" }
     -- M2: B, with room left over
-    ∷ record { table = exampleB; pool = ascii "aUb"; tableSize = 37; poolSize = 8; answer = 0 ∷ 0 ∷ 0 ∷ 3 ∷ 6 ∷ []; outTable = exampleB′ ++ replicate 7 0; outPool = ascii "aUbNS1" ++ replicate 2 0 }
+    ∷ record { table = exampleB; pool = ascii "aUb"; tableSize = 40; poolSize = 8; answer = 0 ∷ 0 ∷ 0 ∷ 3 ∷ 6 ∷ []; outTable = exampleB′ ++ replicate 7 0; outPool = ascii "aUbNS1" ++ replicate 2 0 }
     -- M3: an empty table
-    ∷ record { table = []; pool = []; tableSize = 10; poolSize = 2; answer = 0 ∷ 0 ∷ 0 ∷ 0 ∷ 0 ∷ []; outTable = replicate 10 0; outPool = replicate 2 0 }
-    -- M4: 11 words
-    ∷ record { table = exampleA ++ 0 ∷ []; pool = ascii "aU"; tableSize = 20; poolSize = 2; answer = 1 ∷ 0 ∷ 0 ∷ 0 ∷ 0 ∷ []; outTable = replicate 20 0; outPool = replicate 2 0 }
+    ∷ record { table = []; pool = []; tableSize = 11; poolSize = 2; answer = 0 ∷ 0 ∷ 0 ∷ 0 ∷ 0 ∷ []; outTable = replicate 11 0; outPool = replicate 2 0 }
+    -- M4: 12 words
+    ∷ record { table = exampleA ++ 0 ∷ []; pool = ascii "aU"; tableSize = 22; poolSize = 2; answer = 1 ∷ 0 ∷ 0 ∷ 0 ∷ 0 ∷ []; outTable = replicate 22 0; outPool = replicate 2 0 }
     -- M5: A with output for one row
-    ∷ record { table = exampleA; pool = ascii "aU"; tableSize = 10; poolSize = 2; answer = 10 ∷ 0 ∷ 0 ∷ 0 ∷ 0 ∷ []; outTable = replicate 10 0; outPool = replicate 2 0 }
+    ∷ record { table = exampleA; pool = ascii "aU"; tableSize = 11; poolSize = 2; answer = 10 ∷ 0 ∷ 0 ∷ 0 ∷ 0 ∷ []; outTable = replicate 11 0; outPool = replicate 2 0 }
     -- M6: B with a 5-byte output pool, and with 6 bytes
-    ∷ record { table = exampleB; pool = ascii "aUb"; tableSize = 30; poolSize = 5; answer = 11 ∷ 0 ∷ 0 ∷ 0 ∷ 0 ∷ []; outTable = replicate 30 0; outPool = replicate 5 0 }
-    ∷ record { table = exampleB; pool = ascii "aUb"; tableSize = 30; poolSize = 6; answer = 0 ∷ 0 ∷ 0 ∷ 3 ∷ 6 ∷ []; outTable = exampleB′; outPool = ascii "aUbNS1" }
+    ∷ record { table = exampleB; pool = ascii "aUb"; tableSize = 33; poolSize = 5; answer = 11 ∷ 0 ∷ 0 ∷ 0 ∷ 0 ∷ []; outTable = replicate 33 0; outPool = replicate 5 0 }
+    ∷ record { table = exampleB; pool = ascii "aUb"; tableSize = 33; poolSize = 6; answer = 0 ∷ 0 ∷ 0 ∷ 3 ∷ 6 ∷ []; outTable = exampleB′; outPool = ascii "aUbNS1" }
     -- M7: B.1.1's child2 gets its own xmlns:ns
-    ∷ record { table = tree1; pool = treeNames; tableSize = 80; poolSize = 79; answer = 0 ∷ 0 ∷ 0 ∷ 8 ∷ 79 ∷ []; outTable = tree1 ++ row 13 6 (0, 0) (10, 2) (0, 0) (53, 26); outPool = treeNames }
+    ∷ record { table = tree1; pool = treeNames; tableSize = 88; poolSize = 79; answer = 0 ∷ 0 ∷ 0 ∷ 8 ∷ 79 ∷ []; outTable = tree1 ++ row 13 6 (0, 0) (10, 2) (0, 0) (53, 26); outPool = treeNames }
     -- M8: B.1.2's child1 declaration is changed, child2 gets one
-    ∷ record { table = tree2 (27, 26); pool = treeNames; tableSize = 50; poolSize = 79; answer = 0 ∷ 0 ∷ 0 ∷ 5 ∷ 79 ∷ []; outTable = tree2 (53, 26) ++ row 13 3 (0, 0) (10, 2) (0, 0) (27, 26); outPool = treeNames }
+    ∷ record { table = tree2 (27, 26); pool = treeNames; tableSize = 55; poolSize = 79; answer = 0 ∷ 0 ∷ 0 ∷ 5 ∷ 79 ∷ []; outTable = tree2 (53, 26) ++ row 13 3 (0, 0) (10, 2) (0, 0) (27, 26); outPool = treeNames }
     -- M9: the element without URI gets xmlns=""
-    ∷ record { table = exampleM9; pool = ascii "aUb"; tableSize = 40; poolSize = 3; answer = 0 ∷ 0 ∷ 0 ∷ 4 ∷ 3 ∷ []; outTable = exampleM9 ++ row 13 2 (0, 0) (0, 0) (0, 0) (0, 0); outPool = ascii "aUb" }
+    ∷ record { table = exampleM9; pool = ascii "aUb"; tableSize = 44; poolSize = 3; answer = 0 ∷ 0 ∷ 0 ∷ 4 ∷ 3 ∷ []; outTable = exampleM9 ++ row 13 2 (0, 0) (0, 0) (0, 0) (0, 0); outPool = ascii "aUb" }
     -- M10: an attribute with XML-URI and no prefix gets xml
-    ∷ record { table = row 1 NONE (0, 0) (0, 1) (0, 0) (0, 0) ++ row 2 0 (0, 0) (1, 1) (2, 36) (0, 0); pool = ascii "abhttp://www.w3.org/XML/1998/namespace"; tableSize = 20; poolSize = 41; answer = 0 ∷ 0 ∷ 0 ∷ 2 ∷ 41 ∷ []; outTable = row 1 NONE (0, 0) (0, 1) (0, 0) (0, 0) ++ row 2 0 (38, 3) (1, 1) (2, 36) (0, 0); outPool = ascii "abhttp://www.w3.org/XML/1998/namespacexml" }
+    ∷ record { table = row 1 NONE (0, 0) (0, 1) (0, 0) (0, 0) ++ row 2 0 (0, 0) (1, 1) (2, 36) (0, 0); pool = ascii "abhttp://www.w3.org/XML/1998/namespace"; tableSize = 22; poolSize = 41; answer = 0 ∷ 0 ∷ 0 ∷ 2 ∷ 41 ∷ []; outTable = row 1 NONE (0, 0) (0, 1) (0, 0) (0, 0) ++ row 2 0 (38, 3) (1, 1) (2, 36) (0, 0); outPool = ascii "abhttp://www.w3.org/XML/1998/namespacexml" }
     -- M11: xmlns:p=""
-    ∷ record { table = row 1 NONE (0, 0) (0, 1) (0, 0) (0, 0) ++ row 13 0 (0, 0) (1, 1) (0, 0) (0, 0); pool = ascii "ap"; tableSize = 20; poolSize = 2; answer = 6 ∷ 1 ∷ 0 ∷ 0 ∷ 0 ∷ []; outTable = replicate 20 0; outPool = replicate 2 0 }
+    ∷ record { table = row 1 NONE (0, 0) (0, 1) (0, 0) (0, 0) ++ row 13 0 (0, 0) (1, 1) (0, 0) (0, 0); pool = ascii "ap"; tableSize = 22; poolSize = 2; answer = 6 ∷ 1 ∷ 0 ∷ 0 ∷ 0 ∷ []; outTable = replicate 22 0; outPool = replicate 2 0 }
     -- M12: a row that is its own parent
-    ∷ record { table = row 1 0 (0, 0) (0, 1) (0, 0) (0, 0); pool = ascii "a"; tableSize = 10; poolSize = 1; answer = 2 ∷ 0 ∷ 0 ∷ 0 ∷ 0 ∷ []; outTable = replicate 10 0; outPool = replicate 1 0 }
+    ∷ record { table = row 1 0 (0, 0) (0, 1) (0, 0) (0, 0); pool = ascii "a"; tableSize = 11; poolSize = 1; answer = 2 ∷ 0 ∷ 0 ∷ 0 ∷ 0 ∷ []; outTable = replicate 11 0; outPool = replicate 1 0 }
     ∷ []
 
 -- Every case comes out as RULES 7.1 says.

@@ -76,6 +76,7 @@ pub record KeepsMeaning (input result : List Node) (r : ℕ) : Type 0 where
   pub parent : node result r .parent ≡ node input r .parent
   pub uri : node result r .uri .bytes ≡ node input r .uri .bytes
   pub local : node result r .local .bytes ≡ node input r .local .bytes
+  pub maker : node result r .maker ≡ node input r .maker
   pub meaning : T (means result r)
 
 -- Demand 3, first part: every element and owned attribute keeps its URI and local name, and its prefix means that URI in scope.
@@ -89,11 +90,16 @@ Meaning =
 abbrev pub fieldBytes : Node → List (List ℕ)
 fieldBytes n = map (λ (f : Field). f .bytes) (fields n)
 
+-- What an added declaration is compared by: the bytes of its fields, and its maker.
+abbrev pub bytesAndMaker : Node → List (List ℕ) × ℕ
+bytesAndMaker n = (fieldBytes n, n .maker)
+
 -- Two tables agree on a row if it has the same type and parent and the same bytes in all four fields in both; offsets may differ.
 pub record Agree (n m : Node) : Type 0 where
   pub type : n .type ≡ m .type
   pub parent : n .parent ≡ m .parent
   pub bytes : fieldBytes n ≡ fieldBytes m
+  pub maker : n .maker ≡ m .maker
 
 -- Row r and its ancestors: all rows up the parent words, elements or not. A parent is always less than its row, so r + 1 steps
 -- are enough.
@@ -127,7 +133,7 @@ pub record ResultsAgreeAt (ns result result′ : List Node) (e : ℕ) : Type 0 w
   pub rows : (r : ℕ) → r < length ns → T (concerns ns e r) → Agree (node result r) (node result′ r)
   pub added :
       (x : ℕ) → T (isOneOf (selfAndAncestors ns e) x) →
-      map fieldBytes (addedDeclarations (length ns) result x) ≡ map fieldBytes (addedDeclarations (length ns) result′ x)
+      map bytesAndMaker (addedDeclarations (length ns) result x) ≡ map bytesAndMaker (addedDeclarations (length ns) result′ x)
 
 -- Demand 3, second part: two tables that agree on an element, its ancestors and what these own agree there after normalization
 -- too, whatever the other rows hold. It holds at every row e, elements among them.

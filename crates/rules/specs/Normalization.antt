@@ -17,19 +17,20 @@ pub record State : Type 0 where
   pub rows : List Node
   pub pool : List ℕ
 
--- A new row: type 13, parent the element, prefix and URI fields 0.
-abbrev pub newDeclaration : ℕ → Field → Field → Node
-newDeclaration e prefix uri = record { type = DECLARATION; parent = e; prefix = noField; local = prefix; uri = noField; value = uri }
+-- A new row: type 13, parent the element, the maker of the row that needs it, prefix and URI fields 0.
+abbrev pub newDeclaration : ℕ → ℕ → Field → Field → Node
+newDeclaration e maker prefix uri =
+    record { type = DECLARATION; parent = e; prefix = noField; local = prefix; uri = noField; value = uri; maker = maker }
 
 -- A row with another value.
 abbrev pub withValue : Field → Node → Node
 withValue value n =
-    record { type = n .type; parent = n .parent; prefix = n .prefix; local = n .local; uri = n .uri; value = value }
+    record { type = n .type; parent = n .parent; prefix = n .prefix; local = n .local; uri = n .uri; value = value; maker = n .maker }
 
 -- A row with another prefix.
 abbrev pub withPrefix : Field → Node → Node
 withPrefix prefix n =
-    record { type = n .type; parent = n .parent; prefix = prefix; local = n .local; uri = n .uri; value = n .value }
+    record { type = n .type; parent = n .parent; prefix = prefix; local = n .local; uri = n .uri; value = n .value; maker = n .maker }
 
 -- The row is element e's own declaration of this prefix.
 abbrev pub isOwnDeclaration : ℕ → List ℕ → Node → Bool
@@ -40,11 +41,11 @@ abbrev pub revalued : ℕ → List ℕ → Field → Node → Node
 revalued e prefix uri n = cond (isOwnDeclaration e prefix n) (withValue uri n) n
 
 -- Sets element e's own declaration of a prefix to a URI, or appends one. Refusal 7 makes it at most one row.
-unfoldable pub declare : ℕ → Field → Field → List Node → List Node
-declare e prefix uri ns =
+unfoldable pub declare : ℕ → ℕ → Field → Field → List Node → List Node
+declare e maker prefix uri ns =
     cond (anyOf (isOwnDeclaration e (prefix .bytes)) ns)
     (map (revalued e (prefix .bytes) uri) ns)
-    (ns ++ newDeclaration e prefix uri ∷ [])
+    (ns ++ newDeclaration e maker prefix uri ∷ [])
 
 -- Step 1, an element with a URI: if the in-scope URI of its prefix (or default) differs, set its own declaration of that
 -- prefix to its URI, or append one. Step 2, an element without a URI: if the in-scope default isn't none, set its own default
@@ -52,9 +53,9 @@ declare e prefix uri ns =
 unfoldable pub repairElement : ℕ → List Node → List Node
 repairElement e ns =
     cond (isEmpty (node ns e .uri .bytes))
-    (cond (isEmpty (uriBytes (inScopeUri (scopeAt ns e) []))) ns (declare e noField noField ns))
+    (cond (isEmpty (uriBytes (inScopeUri (scopeAt ns e) []))) ns (declare e (node ns e .maker) noField noField ns))
     (cond (sameBytes (uriBytes (inScopeUri (scopeAt ns e) (node ns e .prefix .bytes))) (node ns e .uri .bytes)) ns
-    (declare e (node ns e .prefix) (node ns e .uri) ns))
+    (declare e (node ns e .maker) (node ns e .prefix) (node ns e .uri) ns))
 
 -- The decimal digits of a number, no leading zero; as many steps as the number are enough.
 unfoldable pub digits : ℕ → ℕ → List ℕ
@@ -120,12 +121,12 @@ newPrefix pool a declareOwn = a .prefix
 newPrefix pool a (makeNumbered bytes) = record { offset = length pool; size = length bytes; bytes = bytes }
 
 -- The rows that a repair appends: the declaration of the attribute's prefix as its URI.
-unfoldable pub newRows : ℕ → Field → Field → Repair → List Node
-newRows e prefix uri keep = []
-newRows e prefix uri (takeDeclared found) = []
-newRows e prefix uri (takeBuiltIn bytes) = []
-newRows e prefix uri declareOwn = newDeclaration e prefix uri ∷ []
-newRows e prefix uri (makeNumbered bytes) = newDeclaration e prefix uri ∷ []
+unfoldable pub newRows : ℕ → ℕ → Field → Field → Repair → List Node
+newRows e maker prefix uri keep = []
+newRows e maker prefix uri (takeDeclared found) = []
+newRows e maker prefix uri (takeBuiltIn bytes) = []
+newRows e maker prefix uri declareOwn = newDeclaration e maker prefix uri ∷ []
+newRows e maker prefix uri (makeNumbered bytes) = newDeclaration e maker prefix uri ∷ []
 
 -- Does it to row a, an attribute of element e.
 unfoldable pub perform : ℕ → ℕ → Repair → State → State
@@ -133,7 +134,7 @@ perform e a repair s =
     record {
       rows =
           set (s .rows) a (withPrefix (newPrefix (s .pool) (node (s .rows) a) repair) (node (s .rows) a))
-          ++ newRows e (newPrefix (s .pool) (node (s .rows) a) repair) (node (s .rows) a .uri) repair;
+          ++ newRows e (node (s .rows) a .maker) (newPrefix (s .pool) (node (s .rows) a) repair) (node (s .rows) a .uri) repair;
       pool = s .pool ++ newBytes repair;
     }
 

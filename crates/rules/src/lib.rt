@@ -2,7 +2,7 @@
 // operation answers. The definitions in specs/Answers.antt give each case's number and values.
 
 // The words of a row, the most rows of a table and the most bytes of a pool.
-pub const WIDTH: usize = 10;
+pub const WIDTH: usize = 11;
 
 pub const MOST_ROWS: usize = 1024;
 
@@ -23,6 +23,8 @@ pub const LOCAL_NAME: u32 = 4;
 pub const URI: u32 = 6;
 
 pub const VALUE: u32 = 8;
+
+pub const MAKER: u32 = 10;
 
 // The types of rows: DOM's, a namespace declaration, and a DOM Level 1 element and attribute.
 pub const ELEMENT: u32 = 1;

@@ -23,7 +23,7 @@ newParent ns parent = cond (eqb parent NONE) NONE (length (kept ns parent))
 
 abbrev pub withParent : ℕ → Node → Node
 withParent parent n =
-    record { type = n .type; parent = parent; prefix = n .prefix; local = n .local; uri = n .uri; value = n .value }
+    record { type = n .type; parent = parent; prefix = n .prefix; local = n .local; uri = n .uri; value = n .value; maker = n .maker }
 
 -- The result's rows.
 unfoldable pub salvagedNodes : List Node → List Node

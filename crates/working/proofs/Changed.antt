@@ -190,10 +190,10 @@ module _ {ns : List Node} {notes path : List ℕ} {names limit : ℕ} (n : Numbe
   -- One declaration more, for row r.
   pub numbers-appended :
       (e r : ℕ) → r < length ns → NOTES * length ns + NOTES ≤ length notes
-      → Numbers (ns ++ newDeclaration e (node ns r .prefix) (node ns r .uri) ∷ []) (notedFor notes (length ns) r) path names limit
+      → Numbers (ns ++ newDeclaration e (node ns r .maker) (node ns r .prefix) (node ns r .uri) ∷ []) (notedFor notes (length ns) r) path names limit
   numbers-appended e r below room =
       let new = length ns in
-      let d = newDeclaration e (node ns r .prefix) (node ns r .uri) in
+      let d = newDeclaration e (node ns r .maker) (node ns r .prefix) (node ns r .uri) in
       let notes′ = notedFor notes new r in
       let none? : Names (n .spelling) names 0 [] = blank-name (n .spelled) in
       numbers-of (ns ++ d ∷ []) notes′

@@ -7,7 +7,7 @@ use native.Mathlib.Omega.{arith}
 use lib.ListN.{length, take}
 use borrow.Author.Tests.{ne-eqb}
 use Rattle.rules.specs.Lists.{filtered, gathered}
-use Rattle.rules.specs.Table.{WIDTH, MOST-ROWS, PARENT, PREFIX, URI, word, rowCount}
+use Rattle.rules.specs.Table.{WIDTH, MOST-ROWS, PARENT, PREFIX, URI, MAKER, word, rowCount}
 use Rattle.rules.specs.Normalization.{State}
 use Rattle.rows.specs.Reading.{placeAt}
 use Rattle.buffers.specs.Writes.{written, declarationWords}
@@ -169,10 +169,10 @@ module _ {table notes tops path : List ℕ} {rows a : ℕ} (h : AtTop table note
     pub top-small : o < MOST-ROWS
     top-small = omega (arith, top-owner, h .earlier, h .more, h .good .lent .room .limitSmall)
 
-    module _ {table₁ notes₁ : List ℕ} (made : table₁ ≡ written table (WIDTH * rows) (declarationWords o (placeAt words a PREFIX) (placeAt words a URI)))
+    module _ {table₁ notes₁ : List ℕ} (made : table₁ ≡ written table (WIDTH * rows) (declarationWords o (word words a MAKER) (placeAt words a PREFIX) (placeAt words a URI)))
         (number : notes₁ ≡ notedFor notes rows a) where
-      made-as : table₁ ≡ written table (WIDTH * rows) (declarationWords (h .owner) (placeAt words a PREFIX) (placeAt words a URI))
-      made-as = made ∙ ap (λ (x : ℕ). written table (WIDTH * rows) (declarationWords x (placeAt words a PREFIX) (placeAt words a URI))) top-owner
+      made-as : table₁ ≡ written table (WIDTH * rows) (declarationWords (h .owner) (word words a MAKER) (placeAt words a PREFIX) (placeAt words a URI))
+      made-as = made ∙ ap (λ (x : ℕ). written table (WIDTH * rows) (declarationWords x (word words a MAKER) (placeAt words a PREFIX) (placeAt words a URI))) top-owner
 
       top-written : Appended table₁ (h .pool) notes₁ tops path words rows (h .bytes) (h .names) (h .limit) (h .owner + 1) (h .owner) (declaredFor (h .owner) a (h .state))
       top-written = appended (h .good) (h .owner) a (h .below) (h .earlier) (h .more) made-as number (omega (arith, h .earlier))

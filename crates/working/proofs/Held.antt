@@ -5,7 +5,7 @@ use mathlib.Core.Path.{_≡_, refl, sym, _∙_, ap, subst}
 use mathlib.Core.List.{List}
 use native.Mathlib.Omega.{arith}
 use lib.ListN.{length, take}
-use Rattle.rules.specs.Table.{WIDTH, TYPE, PARENT, Node, nodes, node, word, rowCount}
+use Rattle.rules.specs.Table.{WIDTH, TYPE, PARENT, MAKER, Node, nodes, node, word, rowCount}
 use Rattle.rules.specs.Lookups.{scopeAt}
 use Rattle.rules.specs.Normalization.{State}
 use Rattle.rules.proofs.Table.{word-words}
@@ -41,6 +41,9 @@ module _ {table pool notes tops path : List ℕ} {rows bytes names limit q : ℕ
 
   pub parent-word : (r : ℕ) → r < rows → word part r PARENT ≡ node (s .rows) r .parent
   parent-word r below = ap (λ (l : List ℕ). word l r PARENT) (g .words) ∙ word-words (s .rows) r PARENT (rw count below) (omega arith)
+
+  pub maker-word : (r : ℕ) → r < rows → word part r MAKER ≡ node (s .rows) r .maker
+  maker-word r below = ap (λ (l : List ℕ). word l r MAKER) (g .words) ∙ word-words (s .rows) r MAKER (rw count below) (omega arith)
 
   pub rows-held : Lawful s → nodes part (take bytes pool) ≡ s .rows
   rows-held l = rows-meant table rows (s .rows) (g .words) (take bytes pool) (rw (g .held) (l .fit))

@@ -5,7 +5,7 @@ use mathlib.Core.Path.{_≡_, refl, sym, _∙_, ap, subst}
 use mathlib.Core.List.{List}
 use native.Mathlib.Omega.{arith}
 use lib.ListN.{length, take, length-append}
-use Rattle.rules.specs.Table.{WIDTH, MOST-ROWS, PREFIX, URI, VALUE, Node, node, rowCount}
+use Rattle.rules.specs.Table.{WIDTH, MOST-ROWS, PREFIX, URI, VALUE, MAKER, Node, node, word, rowCount}
 use Rattle.rules.specs.Lookups.{place}
 use Rattle.rules.specs.Normalization.{State, withValue}
 use Rattle.rows.specs.Reading.{placeAt}
@@ -112,7 +112,7 @@ module _ {table pool notes tops path : List ℕ} {rows bytes names limit e : ℕ
 
     -- appended
     module _ (more : rows < limit) {table₁ notes₁ : List ℕ}
-        (made : table₁ ≡ written table (WIDTH * rows) (declarationWords e (placeAt (part (h .good)) e PREFIX) (placeAt (part (h .good)) e URI)))
+        (made : table₁ ≡ written table (WIDTH * rows) (declarationWords e (word (part (h .good)) e MAKER) (placeAt (part (h .good)) e PREFIX) (placeAt (part (h .good)) e URI)))
         (number : notes₁ ≡ notedFor notes rows e) where
       abbrev below : e < rows
       below = element-below (h .good) (h .element)

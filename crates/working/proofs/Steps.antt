@@ -8,7 +8,7 @@ use lib.ListN.{length, getD, take, set, length-set, length-append}
 use lib.Seq.{length-take-le}
 use lib.Dec.{eqb}
 use borrow.Author.Tests.{eqb-true, eqb-false, lt-ltb}
-use Rattle.rules.specs.Table.{WIDTH, TYPE, PARENT, PREFIX, URI, VALUE, DECLARATION, Field, Node, node, words, wordsOf, word, rowCount}
+use Rattle.rules.specs.Table.{WIDTH, TYPE, PARENT, PREFIX, URI, VALUE, MAKER, DECLARATION, Field, Node, node, words, wordsOf, word, rowCount}
 use Rattle.rules.specs.Lookups.{place}
 use Rattle.rules.specs.Normalization.{State, newDeclaration, withValue, withPrefix}
 use Rattle.rules.proofs.Lists.{by-cases}
@@ -30,7 +30,7 @@ use Rattle.changes.specs.Changes.{notedFor, Named}
 use Rattle.working.specs.Working.{Lent, Numbers, Good, SameAttributes, valued, prefixed, declaredFor, endField}
 use Rattle.scopes.proofs.Changes.{standing-changed, linked-changed}
 use Rattle.changes.proofs.Writes.{counted, written-as}
-use Rattle.working.proofs.Held.{part, rows-fit, count, part-count, type-word, parent-word}
+use Rattle.working.proofs.Held.{part, rows-fit, count, part-count, type-word, parent-word, maker-word}
 use Rattle.working.proofs.Changed.{same-tree, numbers-prefixed, numbers-valued, numbers-appended, length-for, for-links, for-other}
 
 -- One row changes, and keeps its type and parent.
@@ -41,10 +41,10 @@ core-set ns a m below same r less =
     (λ q. core-equal (node-set-other ns a r m (eqb-false r a q)))
 
 pub prefix-core : (n : Node) (f : Field) → SameCore n (withPrefix f n)
-prefix-core n f = record { type = refl; parent = refl; local = refl; uri = refl }
+prefix-core n f = record { type = refl; parent = refl; local = refl; uri = refl; maker = refl }
 
 value-core : (n : Node) (f : Field) → SameCore n (withValue f n)
-value-core n f = record { type = refl; parent = refl; local = refl; uri = refl }
+value-core n f = record { type = refl; parent = refl; local = refl; uri = refl; maker = refl }
 
 -- Numbers over a path whose other words moved.
 numbers-moved : {ns : List Node} {notes path path′ : List ℕ} {names limit : ℕ} → Numbers ns notes path names limit → Untouched path path′ → Numbers ns notes path′ names limit
@@ -186,10 +186,10 @@ pub record Appended (table pool notes tops path before : List ℕ) (rows bytes n
 
 module _ {table pool notes tops path : List ℕ} {rows bytes names limit q : ℕ} {s : State} (g : Good table pool notes tops path rows bytes names limit q s)
     (e r : ℕ) (below : r < rows) (earlier : e < rows) (more : rows < limit) {table′ notes′ : List ℕ}
-    (made : table′ ≡ written table (WIDTH * rows) (declarationWords e (placeAt (part g) r PREFIX) (placeAt (part g) r URI))) (number : notes′ ≡ notedFor notes rows r)
+    (made : table′ ≡ written table (WIDTH * rows) (declarationWords e (word (part g) r MAKER) (placeAt (part g) r PREFIX) (placeAt (part g) r URI))) (number : notes′ ≡ notedFor notes rows r)
     (low : q ≤ rows) where
   abbrev declaration : Node
-  declaration = newDeclaration e (node (s .rows) r .prefix) (node (s .rows) r .uri)
+  declaration = newDeclaration e (node (s .rows) r .maker) (node (s .rows) r .prefix) (node (s .rows) r .uri)
 
   pub appended : Appended table′ pool notes′ tops path (part g) rows bytes names limit q e (declaredFor e r s)
   unfolding ownerOf
@@ -202,7 +202,7 @@ module _ {table pool notes tops path : List ℕ} {rows bytes names limit q : ℕ
       let prefix : placeAt (part g) r PREFIX ≡ place (node ns r .prefix) = read PREFIX ∙ place-of-words ns r inside PREFIX (omega arith) in
       let uri : placeAt (part g) r URI ≡ place (node ns r .uri) = read URI ∙ place-of-words ns r inside URI (omega arith) in
       let room : WIDTH * rows + WIDTH ≤ length table = omega (arith, g .lent .room .tableRoom) in
-      let made-words : table′ ≡ written table (WIDTH * rows) (wordsOf declaration) = written-as table (WIDTH * rows) e made prefix uri in
+      let made-words : table′ ≡ written table (WIDTH * rows) (wordsOf declaration) = written-as table (WIDTH * rows) e made (maker-word g r below) prefix uri in
       let is-words : part′ ≡ words ms = ap (take (WIDTH * (rows + 1))) made-words ∙ appended-words table rows ns (g .words) room declaration in
       let tables : length table′ ≡ length table = ap length made-words ∙ length-written table (WIDTH * rows) (wordsOf declaration) room in
       let total : rowCount part′ ≡ rows + 1 = counted table′ (rows + 1) (omega (arith, g .lent .room .tableRoom)) in

@@ -141,7 +141,7 @@ abbrev pub prefixed : ℕ → Field → List ℕ → State → State
 prefixed a prefix bytes s = record { rows = set (s .rows) a (withPrefix prefix (node (s .rows) a)); pool = s .pool ++ bytes }
 
 abbrev pub declaredFor : ℕ → ℕ → State → State
-declaredFor e r s = record { rows = s .rows ++ newDeclaration e (node (s .rows) r .prefix) (node (s .rows) r .uri) ∷ []; pool = s .pool }
+declaredFor e r s = record { rows = s .rows ++ newDeclaration e (node (s .rows) r .maker) (node (s .rows) r .prefix) (node (s .rows) r .uri) ∷ []; pool = s .pool }
 
 -- An attribute whose declaration is to be written: its prefix has no declaration in scope at its owner, and its URI no serving one.
 pub record AtTop (table notes tops path : List ℕ) (rows a : ℕ) : Type 0 where

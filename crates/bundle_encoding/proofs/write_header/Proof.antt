@@ -19,12 +19,6 @@ array-read-t12 c = search needs
 array-read-t16 : tie.Need-array-read-t16
 array-read-t16 c = search needs
 
-array-read-t20 : tie.Need-array-read-t20
-array-read-t20 c = search needs
-
-array-read-t24 : tie.Need-array-read-t24
-array-read-t24 c = search needs
-
 byte-requires : tie.Need-byte-requires
 byte-requires c κs = search needs
 
@@ -64,8 +58,6 @@ write-header-spec =
     array-read-t8
     array-read-t12
     array-read-t16
-    array-read-t20
-    array-read-t24
     byte-requires
     byte-requires-2
     byte-requires-3

@@ -5,10 +5,10 @@ use mathlib.Core.Path.{refl, sym, ap, _∙_}
 use mathlib.Core.List.{List}
 use native.Mathlib.Omega.{arith}
 use denote.Ref.{now}
-use lib.ListN.{length, drop}
+use lib.ListN.{length}
 use Rattle.rules.specs.Table.{MOST-ROWS, MOST-BYTES}
 use Rattle.normal_form.specs.Lent.{WORK}
-use Rattle.bundles.specs.Bundles.{poolStart}
+use Rattle.bundles.specs.Bundles.{bundlePool}
 use Rattle.bundles.specs.Operations.{WriteOutcome}
 use Rattle.bundles.specs.Opening.{Opens}
 use Rattle.bundles.proofs.Opening.{new-room}
@@ -25,7 +25,7 @@ opened c = c .before .before .before .before .read-rows .ensures .0 _ (c .before
 -- Its pool is no longer than a pool may be.
 module _ (c : tie.After-known-told) where
   abbrev bytes : List ℕ
-  bytes = drop (poolStart (c .before .n .given .0 .0)) (now (c .before .before .before .before .before .before .before .before .args .bundle))
+  bytes = bundlePool (now (c .before .before .before .before .before .before .before .before .args .bundle))
 
   short : length bytes ≤ MOST-BYTES
   short = pool-short _ _ _ (opened c) _ refl
@@ -37,7 +37,7 @@ normalize-requires c κs =
     let words = k .before .before .before .before .read-rows .kept .1 .0 in
     let few = opened k .few in
     let fits = short k in
-    room-for _ _ _ _ MOST-ROWS MOST-BYTES (omega arith) (c .before .before .before .copy-pool .kept .1 .1 .0) (omega arith) (omega arith) (omega arith) (omega arith)
+    room-for _ _ _ _ MOST-ROWS MOST-BYTES (omega arith) (c .before .before .before .copy-pool .kept .1 .0) (omega arith) (omega arith) (omega arith) (omega arith)
 
 write-made-requires : tie.Need-write-made-requires
 write-made-requires c κs = (_, _, c .before .before .before .before .before .normalize .ensures)

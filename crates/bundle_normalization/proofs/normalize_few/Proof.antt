@@ -1,13 +1,13 @@
 -- `bundle_normalization::normalize_few` meets its contract.
 -- Assumes nothing.
 use Prim.Native.Nat.{ℕ, _*_, _≤_}
-use mathlib.Core.Path.{refl, sym, ap, _∙_}
+use mathlib.Core.Path.{sym, ap, _∙_}
 use mathlib.Core.List.{List}
 use native.Mathlib.Omega.{arith}
 use denote.Ref.{now}
-use lib.ListN.{length, drop}
+use lib.ListN.{length}
 use Rattle.table_size.specs.Small.{FEW-ROWS, FEW-BYTES}
-use Rattle.bundles.specs.Bundles.{poolStart}
+use Rattle.bundles.specs.Bundles.{bundlePool}
 use Rattle.bundles.specs.Operations.{WriteOutcome}
 use Rattle.bundles.specs.Opening.{Opens}
 use Rattle.bundles.proofs.Opening.{new-room}
@@ -25,10 +25,10 @@ opened c = c .before .before .before .before .read-rows .ensures .0 _ (c .before
 -- Its pool is short.
 module _ (c : tie.After-known-told) where
   abbrev bytes : List ℕ
-  bytes = drop (poolStart (c .before .n .given .0 .0)) (now (c .before .before .before .before .before .before .before .before .args .bundle))
+  bytes = bundlePool (now (c .before .before .before .before .before .before .before .before .args .bundle))
 
   short : length bytes ≤ FEW-BYTES
-  short = pool-few _ _ _ (opened c) (c .before .before .before .before .before .before .before .before .pre) _ refl
+  short = pool-few _ _ _ (opened c) (c .before .before .before .before .before .before .before .before .pre)
 
 normalize-few-requires : tie.Need-normalize-few-requires
 normalize-few-requires c κs =
@@ -38,7 +38,7 @@ normalize-few-requires c κs =
     let few = opened k .few in
     let within = rows-few _ _ _ (opened k) (k .before .before .before .before .before .before .before .before .pre) in
     let fits = short k in
-    (room-for _ _ _ _ FEW-ROWS FEW-BYTES (omega arith) (c .before .before .before .copy-pool .kept .1 .1 .0) (omega arith) (omega arith) (omega arith) (omega arith), omega arith)
+    (room-for _ _ _ _ FEW-ROWS FEW-BYTES (omega arith) (c .before .before .before .copy-pool .kept .1 .0) (omega arith) (omega arith) (omega arith) (omega arith), omega arith)
 
 write-made-requires : tie.Need-write-made-requires
 write-made-requires c κs = (_, _, c .before .before .before .before .before .normalize-few .ensures)

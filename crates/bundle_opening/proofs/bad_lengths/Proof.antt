@@ -1,6 +1,5 @@
 -- `bundle_opening::bad_lengths` meets its contract.
 -- Assumes nothing.
-use native.Mathlib.Omega.{arith}
 use Rattle.bundle_opening.proofs.Opening.{lengths-cut, zero-other, lengths-told}
 use borrow.Author.Needs.{needs}
 use Rattle.bundle_opening.proofs.bad_lengths.Statement.{statement}
@@ -15,25 +14,19 @@ shared-slice-read-if2 c = search needs
 returns-2 : tie.Need-returns-2
 returns-2 c = zero-other _ (c .before .before .if1 .left) (c .if2 .taken)
 
-row-count-requires : tie.Need-row-count-requires
-row-count-requires c κs = search needs
-
-mul-result : tie.Need-mul-result
-mul-result c = omega arith
-
-add-result : tie.Need-add-result
-add-result c = omega arith
+pool-start-requires : tie.Need-pool-start-requires
+pool-start-requires c κs = search needs
 
 pool-length-requires : tie.Need-pool-length-requires
 pool-length-requires c κs = search needs
 
-add-result-2 : tie.Need-add-result-2
-add-result-2 c = omega arith
+add-result : tie.Need-add-result
+add-result c = search needs
 
 returns-3 : tie.Need-returns-3
 returns-3 c =
     let zero = c .before .before in
-    rw (c .before .row-count .ensures .0, c .pool-length .ensures .0) (lengths-told _ (zero .before .before .if1 .left) (zero .if2 .left))
+    rw (c .before .pool-start .ensures .0, c .pool-length .ensures .0) (lengths-told _ (zero .before .before .if1 .left) (zero .if2 .left))
 
 pub bad-lengths-spec : {M : Type 1} → statement M
 bad-lengths-spec =
@@ -42,9 +35,7 @@ bad-lengths-spec =
     returns
     shared-slice-read-if2
     returns-2
-    row-count-requires
-    mul-result
-    add-result
+    pool-start-requires
     pool-length-requires
-    add-result-2
+    add-result
     returns-3)

@@ -1,9 +1,6 @@
 -- `bundle_opening::other_version` meets its contract.
 -- Assumes nothing.
-use mathlib.Core.Path.{ap}
-use mathlib.Core.Bool.{not}
-use Rattle.bundles.specs.Bundles.{otherVersion}
-use Rattle.bundle_opening.proofs.Opening.{version-cut}
+use Rattle.bundle_opening.proofs.Opening.{version-cut, version-told}
 use borrow.Author.Needs.{needs}
 use Rattle.bundle_opening.proofs.other_version.Statement.{statement}
 use Rattle.bundle_opening.proofs.other_version.Tie as tie
@@ -11,33 +8,18 @@ use Rattle.bundle_opening.proofs.other_version.Tie as tie
 returns : tie.Need-returns
 returns c = version-cut _ (c .if1 .taken)
 
-sub-same : tie.Need-sub-same
-sub-same c = search needs
+version-requires : tie.Need-version-requires
+version-requires c κs = search needs
 
-part-same-start : tie.Need-part-same-start
-part-same-start c = search needs
+cast-result : tie.Need-cast-result
+cast-result c = search needs
 
-part-same-end : tie.Need-part-same-end
-part-same-end c = search needs
-
-slice-aggregate-same : tie.Need-slice-aggregate-same
-slice-aggregate-same c = search needs
-
-same-requires : tie.Need-same-requires
-same-requires c κs = search needs
+cast-result-2 : tie.Need-cast-result-2
+cast-result-2 c = search needs
 
 returns-2 : tie.Need-returns-2
-unfolding otherVersion
-returns-2 c = ap not (c .same .ensures)
+returns-2 c = version-told _ (c .before .if1 .left) _ (c .version .ensures)
 
 pub other-version-spec : {M : Type 1} → statement M
 other-version-spec =
-    tie.close
-    (tie.spec
-    returns
-    sub-same
-    part-same-start
-    part-same-end
-    slice-aggregate-same
-    same-requires
-    returns-2)
+    tie.close (tie.spec returns version-requires cast-result cast-result-2 returns-2)

@@ -3,7 +3,8 @@
 use borrow.Author.Needs.{needs}
 use Prim.Native.Nat.{_*_}
 use native.Mathlib.Omega.{arith}
-use Rattle.changes.proofs.Writes.{count-part, row-within, written-as}
+use Rattle.rules.specs.Table.{WIDTH}
+use Rattle.changes.proofs.Writes.{count-part, counted, row-within, written-as}
 use Rattle.changes.proofs.write_declaration.Statement.{statement}
 use Rattle.changes.proofs.write_declaration.Tie as tie
 
@@ -22,8 +23,13 @@ place-requires c κs = (row-within (c .before .before .before .args .table .now)
 place-requires-2 : tie.Need-place-requires-2
 place-requires-2 c κs = (row-within (c .before .before .before .before .args .table .now) _ _ (omega arith) (c .before .before .before .before .pre .0 .0), omega arith)
 
-cast-t12 : tie.Need-cast-t12
-cast-t12 c = search needs
+maker-requires : tie.Need-maker-requires
+maker-requires c κs =
+    let s = c .before .before .before .before .before in
+    rw (counted (s .args .table .now) (s .args .rows) (omega arith)) (omega arith)
+
+cast-t13 : tie.Need-cast-t13
+cast-t13 c = search needs
 
 append-row-requires : tie.Need-append-row-requires
 append-row-requires c κs = search needs
@@ -39,8 +45,8 @@ same-length-2 c = search needs
 
 returns : tie.Need-returns
 returns c =
-    let s = c .before .before .before .before .before .before .before .before .before .before .before .before .before in
-    (written-as (s .args .table .now) (10 * s .args .rows) (s .args .owner .0) (c .before .before .before .before .before .before .append-row .ensures) (c .before .before .before .before .before .before .before .before .before .place .ensures) (c .before .before .before .before .before .before .before .before .place2 .ensures), c .before .before .note-declaration .ensures)
+    let s = c .before .before .before .before .before .before .before .before .before .before .before .before .before .before in
+    (written-as (s .args .table .now) (WIDTH * s .args .rows) (s .args .owner .0) (c .before .before .before .before .before .before .append-row .ensures) (c .before .before .before .before .before .before .before .before .maker .ensures) (c .before .before .before .before .before .before .before .before .before .before .place .ensures) (c .before .before .before .before .before .before .before .before .before .place2 .ensures), c .before .before .note-declaration .ensures)
 
 pub write-declaration-spec : {M : Type 1} → statement M
 write-declaration-spec =
@@ -51,7 +57,8 @@ write-declaration-spec =
     slice-aggregate-words
     place-requires
     place-requires-2
-    cast-t12
+    maker-requires
+    cast-t13
     append-row-requires
     note-declaration-requires
     same-length

@@ -1,0 +1,2 @@
+-- Versions: the calls over bundles of the version before makers.
+pub mod Versions

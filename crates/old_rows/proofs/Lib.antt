@@ -1,0 +1,2 @@
+-- Rows: rows from before makers, one after the other.
+pub mod Rows
