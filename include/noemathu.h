@@ -215,18 +215,18 @@ extern "C" {
    a bundle needs see noemathu_xml_room. */
 #define NOEMATHU_XML_MOST 201124912
 
-/* Bytes of stack that are enough for any call. Measured were at most 82,592 for
-   noemathu_write, 126,144 for noemathu_check and noemathu_read, 129,472 for the
-   lookups, 216,176 for noemathu_check_proposal, 237,416 for noemathu_write_xml,
-   223,680 for noemathu_normalize, 236,424 for noemathu_pack and 174,184 for
+/* Bytes of stack that are enough for any call. Measured were at most 84,144 for
+   noemathu_write, 132,112 for noemathu_check and noemathu_read, 135,432 for the
+   lookups, 223,360 for noemathu_check_proposal, 241,848 for noemathu_write_xml,
+   229,360 for noemathu_normalize, 246,728 for noemathu_pack and 184,488 for
    noemathu_salvage. */
 #define NOEMATHU_STACK 262144
 
 /* A small bundle, or a small table and its pool, and the bytes of stack that are
-   enough for any call on one. Measured were at most 22,000 for
-   noemathu_write, 24,560 for noemathu_check and noemathu_read, 25,104 for the
-   lookups, 35,912 for noemathu_check_proposal, 27,560 for noemathu_write_xml,
-   35,512 for noemathu_normalize, 38,600 for noemathu_pack and 27,480 for
+   enough for any call on one. Measured were at most 23,080 for
+   noemathu_write, 25,928 for noemathu_check and noemathu_read, 26,440 for the
+   lookups, 36,968 for noemathu_check_proposal, 28,872 for noemathu_write_xml,
+   37,048 for noemathu_normalize, 40,152 for noemathu_pack and 29,032 for
    noemathu_salvage. */
 #define NOEMATHU_FEW_ROWS 64
 #define NOEMATHU_SHORT_POOL 4096
