@@ -561,6 +561,19 @@ def fields_turns_first():
     return table
 
 
+def fields_guessed():
+    """Names as in fields_turns_wide; short values, each at the pool's start and then near its end: a byte between them is another."""
+    pool = bytearray(filled("a\u00e9"))
+    pool[300] = ord("b")
+    end = len(pool) // 3 * 3
+    values = []
+    for group in range(ROWS // 32):
+        size = 66 + 3 * group
+        values += [(0, size)] + [(end - size - 3 * k - 96 * (group + 1), size) for k in range(31)]
+    names = [(303 + 1023 * (i % 2), end - 1326) for i in range(NAMES)]
+    return fields(bytes(pool), [place for i, value in enumerate(values) for place in (*names[3 * i:3 * i + 3], value)])
+
+
 def turns():
     """Counts the names and the values of attributes with four fields each, both from 0 on."""
     return [i // 4 if i % 4 == 3 else 3 * (i // 4) + i % 4 for i in range(4 * ROWS)]
@@ -983,8 +996,8 @@ NAMES_AND_VALUES = (alike_3072, alike_300, alike_192, alike_short, lengths_mixed
                     values_ef_bf, values_three, values_four, values_attributes, values_declared, spoiled_ascii, spoiled_ef,
                     spoiled_quotes, spoiled_quotes_ef, spoiled_between, spoiled_names, spoiled_last, quotes_all, quotes_small,
                     quotes_letters, quotes_seldom, lines_in_tags, lines_in_texts, nothing_escaped, names_long_text,
-                    fields_everywhere, fields_turns, fields_turns_wide, fields_turns_first, fields_threes, fields_threes_named,
-                    fields_threes_slot, fields_threes_parts, fields_threes_lengths, fields_halves, fields_two, fields_eights,
+                    fields_everywhere, fields_turns, fields_turns_wide, fields_turns_first, fields_guessed, fields_threes,
+                    fields_threes_named, fields_threes_slot, fields_threes_parts, fields_threes_lengths, fields_halves, fields_two, fields_eights,
                     fields_one_hash, fields_one_bucket, fields_late,
                     values_everywhere, values_everywhere_two, values_turns, values_groups, values_lengths, values_alike,
                     values_one_hash, values_beyond, fields_small, values_small)

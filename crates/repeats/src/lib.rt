@@ -54,7 +54,7 @@ pub fn learn(index: &mut [u16], pool: &[u8], place: Place, mark: u16)
     ensures { λ _. ⌜ Learned (now (pool .entry)) (now (index .entry)) (now (index .exit)) ⌝ }
 {
     let guess = guess(index, place, mark);
-    let size = size_of(guess);
+    let size = size_of(guess, place);
     if size <= wide(index[SIZE]) as usize {
         return;
     }
@@ -112,8 +112,9 @@ fn known(index: &[u16], place: Place) -> Reach
     }
 }
 
-// How many bytes stand once more if the guess is right; 0 where nothing is guessed.
-fn size_of(guess: Reach) -> usize {
+// How many bytes stand once more if the guess is right; 0 where nothing is guessed, and where it is far longer than the value that
+// it is made of: comparing it would cost more than the value does.
+fn size_of(guess: Reach, place: Place) -> usize {
     if guess.step == 0 {
         return 0;
     }
@@ -124,7 +125,11 @@ fn size_of(guess: Reach) -> usize {
     if whole <= guess.step {
         return 0;
     }
-    whole - guess.step
+    let size = whole - guess.step;
+    if size / 2 > place.length as usize {
+        return 0;
+    }
+    size
 }
 
 fn wide(x: u16) -> u32
