@@ -1,4 +1,6 @@
 // What normalization adds to a table and its pool: the place of a field, a row for a declaration, an NS prefix.
+#![tactic(auto)]
+
 ghost use Rattle.std.specs.Prelude.{◌≡◌, ◌+◌, ◌*◌, ◌≤◌, ◌<◌, length};
 ghost use Rattle.rules.specs.Table.{WIDTH};
 ghost use Rattle.rules.specs.Normalization.{numbered_prefix};

@@ -1,5 +1,7 @@
 // The elements that a row lies in, from the nearest outward, as a path: an array of their row numbers.
 // No such element is NONE.
+#![tactic(auto)]
+
 ghost use Rattle.std.specs.Prelude.{◌≡◌, ◌&&◌, List, ℕ, ◌<◌, ◌≤◌, length, take, eqb};
 ghost use Rattle.rules.specs.Table.{NONE, TYPE, PARENT, nodes, row_count, word, is_element};
 ghost use Rattle.rules.specs.Lookups.{elements_from, ancestor_element, element_child, start_element, lookup_elements};

@@ -1,4 +1,6 @@
 // RULES 2: the number and values of the answers of the check and the lookups, as structs that C reads too.
+#![tactic(auto)]
+
 ghost use Rattle.std.specs.Prelude.{◌≡◌};
 ghost use Rattle.answers.specs.Given.{check_given, located_given, bound_given};
 
@@ -8,7 +10,7 @@ use rules::{Bound, Checked, Located, Offset, Place, Row};
 
 // What a lookup found, and where. The place is 0, 0 for nothing, for a built-in and for a refusal.
 #[repr(C)]
-#[derive(Drop)]
+#[derive(Clone, Copy)]
 pub struct Found {
     pub number: Number,
     pub found: u32,

@@ -1,4 +1,6 @@
 // The number of a name that is asked for: that of the dictionary, or one that no name has.
+#![tactic(auto)]
+
 ghost use Rattle.std.specs.Prelude.{◌≡◌, List, ℕ, ◌+◌, ◌≤◌, ◌<◌, length, eqb};
 ghost use Rattle.rules.specs.Lists.{same_bytes};
 ghost use Rattle.numbers.specs.Numbers.{Names};

@@ -1,4 +1,6 @@
 // The attributes of each element in row order, as links in the notes of the rows.
+#![tactic(auto)]
+
 ghost use Rattle.std.specs.Prelude.{◌≡◌, ℕ, ◌+◌, ◌≤◌, ◌<◌};
 ghost use Rattle.rules.specs.Table.{MOST_ROWS, row_count};
 ghost use Rattle.notes.specs.Notes.{FIRST, note_at, HasNotes};

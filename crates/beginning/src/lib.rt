@@ -1,6 +1,8 @@
 // How every lookup begins: the check, which gives the names of the rows their numbers; whether the table
 // has the row; the number of the name that is asked for. And the way that it goes: the links of the
 // declarations, and the elements from the row's start element outward.
+#![tactic(auto)]
+
 ghost use Rattle.std.specs.Prelude.{◌≡◌, List, ℕ, ◌≤◌, ◌<◌, length, take};
 ghost use Rattle.rules.specs.Table.{nodes, row_count};
 ghost use Rattle.rules.specs.Lookups.{lookup_elements};
@@ -13,7 +15,7 @@ ghost use Rattle.beginning.specs.Ground.{Blank, Unlinked, Begins};
 use rules::{Checked, NameId, Refusal, Row};
 
 // The number of the name that is asked for, or a refusal.
-#[derive(Drop)]
+#[derive(Clone, Copy)]
 pub enum Begun {
     Asked(NameId),
     Refused(Refusal),

@@ -1,4 +1,6 @@
 // What the path of scopes says of a row, by the numbers of its names.
+#![tactic(auto)]
+
 ghost use Rattle.std.specs.Prelude.{◌≡◌, List, ℕ, ◌*◌, ◌≤◌, length};
 ghost use Rattle.rules.specs.Table.{row_count};
 ghost use Rattle.notes.specs.Notes.{NOTES};

@@ -1,4 +1,6 @@
 // The writes that normalization makes to the output table and the output pool.
+#![tactic(auto)]
+
 ghost use Rattle.std.specs.Prelude.{◌≡◌, ◌++◌, ◌+◌, ◌*◌, ◌≤◌, length, drop};
 ghost use Rattle.rules.specs.Table.{WIDTH};
 ghost use Rattle.buffers.specs.Writes.{written, cleared, Put};

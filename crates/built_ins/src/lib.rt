@@ -1,4 +1,6 @@
 // The built-in prefixes and URIs.
+#![tactic(auto)]
+
 ghost use Rattle.std.specs.Prelude.{◌≡◌};
 ghost use Rattle.rules.specs.Lists.{same_bytes};
 ghost use Rattle.rules.specs.Table.{xml_prefix, xmlns_prefix, xml_uri, xmlns_uri};

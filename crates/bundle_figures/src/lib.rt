@@ -1,4 +1,6 @@
 // The figures of the bytes of a session bundle: it is normalized in a table and a working pool of its own.
+#![tactic(auto)]
+
 ghost use Rattle.std.specs.Prelude.{◌≡◌};
 ghost use Rattle.figures.specs.Figures.{figures_of};
 ghost use Rattle.bundle_normalization.specs.Small.{Small};

@@ -1,4 +1,6 @@
 // The bundle of a table whose pool stands in the output already, behind where the rows will be.
+#![tactic(auto)]
+
 ghost use Rattle.std.specs.Prelude.{◌≡◌, ◌+◌, ◌*◌, ◌≤◌, length, take, drop};
 ghost use Rattle.rules.specs.Table.{WIDTH, MOST_ROWS, MOST_BYTES};
 ghost use Rattle.bundles.specs.Bundles.{HEADER, write_bundle};

@@ -1,4 +1,6 @@
 // The lookups over the bytes of a session bundle.
+#![tactic(auto)]
+
 ghost use Rattle.std.specs.Prelude.{◌≡◌};
 ghost use Rattle.bundles.specs.Operations.{bundle_uri_of_prefix, bundle_prefix_of_uri, bundle_default_uri, bundle_in_scope_uri, bundle_in_scope_prefix};
 

@@ -1,4 +1,6 @@
 // Normalization of the bytes of a session bundle into another one, in a table and a working pool of its own.
+#![tactic(auto)]
+
 ghost use Rattle.std.specs.Prelude.{◌≡◌, length};
 ghost use Rattle.bundles.specs.Operations.{bundle_normalized};
 ghost use Rattle.bundle_normalization.specs.Small.{Small};

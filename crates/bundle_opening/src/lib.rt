@@ -1,5 +1,7 @@
 // Opening a session bundle: its refusals, and its rows as words. A table for the rows is made of zeros, which are
 // filled in quickest; only what was read into it is looked at.
+#![tactic(auto)]
+
 ghost use Rattle.std.specs.Prelude.{◌≡◌, ℕ};
 ghost use Rattle.std.proofs.Math.Option.{some};
 ghost use Rattle.rules.specs.Refusals.{verdict};
@@ -12,7 +14,7 @@ use bundles::HEADER;
 use rules::{Checked, Refusal};
 
 // What opening a bundle answers: how many rows it has.
-#[derive(Drop)]
+#[derive(Clone, Copy)]
 pub enum Opened {
     Rows(usize),
     Refused(Refusal),

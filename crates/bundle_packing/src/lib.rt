@@ -1,5 +1,7 @@
 // Packing of the bytes of a session bundle into another one, in tables of its own: small ones for a bundle of few rows and a short
 // pool. Its packed pool may be as long as any; it is written to where it stands in the output.
+#![tactic(auto)]
+
 ghost use Rattle.std.specs.Prelude.{◌≡◌, ◌≤◌, length};
 ghost use Rattle.table_size.specs.Small.{FEW_ROWS};
 ghost use Rattle.bundles.specs.Opening.{NamesAtMost};

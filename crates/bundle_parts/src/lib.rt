@@ -1,4 +1,6 @@
 // The parts of a session bundle: the numbers that it names, its rows, once they are read, and its pool.
+#![tactic(auto)]
+
 ghost use Rattle.std.specs.Prelude.{◌≡◌, ◌*◌, ◌≤◌, ◌<◌, length, take};
 ghost use Rattle.rules.specs.Table.{WIDTH};
 ghost use Rattle.bundles.specs.Bundles.{HEADER, bundle_version, bundle_rows, bundle_pool_length, is_old, pool_start, bundle_pool};

@@ -1,5 +1,7 @@
 // The check of a proposal for an original over the bytes of two session bundles, whose rows are read into tables of their own:
 // small ones for bundles of few rows and short pools. What is no bundle fails the check: 40 or 41, with row 0 and word 0.
+#![tactic(auto)]
+
 ghost use Rattle.std.specs.Prelude.{◌≡◌, true};
 ghost use Rattle.std.proofs.Math.Option.{none};
 ghost use Rattle.rules.specs.Refusals.{check_refusal};

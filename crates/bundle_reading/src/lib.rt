@@ -1,4 +1,6 @@
 // The table and the pool of a session bundle, as copies.
+#![tactic(auto)]
+
 ghost use Rattle.std.specs.Prelude.{◌≡◌, length};
 ghost use Rattle.table_size.specs.Small.{FEW_ROWS};
 ghost use Rattle.bundles.specs.Operations.{bundle_read};

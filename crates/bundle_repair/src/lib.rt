@@ -1,4 +1,6 @@
 // Repair of the subtree of an element of a session bundle into another bundle, in a table and a working pool of its own.
+#![tactic(auto)]
+
 ghost use Rattle.std.specs.Prelude.{◌≡◌, length};
 ghost use Rattle.bundle_normalization.specs.Small.{Small};
 ghost use Rattle.bundle_repair.specs.Repaired.{bundle_repaired};

@@ -1,4 +1,6 @@
 // Salvage of the bytes of a session bundle into another one, with the whole pool, and a list of the rows that are dropped.
+#![tactic(auto)]
+
 ghost use Rattle.std.specs.Prelude.{◌≡◌, length};
 ghost use Rattle.table_size.specs.Small.{FEW_ROWS};
 ghost use Rattle.bundles.specs.Opening.{NamesAtMost};

@@ -1,4 +1,6 @@
 // The totals of a stream of bundles, as its bytes come: each bundle stands behind its length.
+#![tactic(auto)]
+
 ghost use Rattle.std.specs.Prelude.{◌≡◌, List, [], ◌++◌, ℕ, ◌≤◌, ◌<◌, length, take, drop};
 ghost use Rattle.figures.specs.Figures.{figures_of};
 ghost use Rattle.figures.specs.Stream.{LENGTH, MOST_BUNDLES, bundles_of};

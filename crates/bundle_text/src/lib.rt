@@ -1,5 +1,7 @@
 // The XML text of the bytes of a session bundle, whose rows are read into a table of its own: a small one for a
 // bundle of few rows and a short pool.
+#![tactic(auto)]
+
 ghost use Rattle.std.specs.Prelude.{◌≡◌, length};
 ghost use Rattle.table_size.specs.Small.{FEW_ROWS};
 ghost use Rattle.bundles.specs.Opening.{NamesAtMost};

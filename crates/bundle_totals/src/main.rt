@@ -1,6 +1,8 @@
 // Prints the totals of the bundles that stand in the standard input, each behind its length of four bytes, the lowest first.
 // A read that fails is not the end of the input: then nothing is printed, and a line on the standard error says why. That line
 // is all there is to tell it by, for a program has no status but 0.
+#![tactic(auto)]
+
 ghost use Rattle.std.specs.Prelude.{List, ℕ, ◌<◌};
 ghost use Rattle.bundle_stream.specs.Reading.{Reads};
 

@@ -1,4 +1,6 @@
 // Session bundles: a node table and its pool as bytes. What the bytes begin with, and what a refused write leaves.
+#![tactic(auto)]
+
 ghost use Rattle.std.specs.Prelude.{◌≡◌, length};
 ghost use Rattle.bundles.specs.Operations.{write_refused};
 

@@ -3,6 +3,8 @@
 // parts that it asks for, the table, written out, and the pool, whose bytes stand behind a `#` in
 // hexadecimal. A line of one part is a title and is printed as it is. One of more parts that names no operation,
 // or has a number above 4294967289, is not run, and the program says so.
+#![tactic(auto)]
+
 mod check_cases;
 mod hexadecimal;
 mod lookup_cases;

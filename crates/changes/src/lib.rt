@@ -1,4 +1,6 @@
 // The writes of normalization: a row's words in the table and its numbers in the notes.
+#![tactic(auto)]
+
 ghost use Rattle.std.specs.Prelude.{◌≡◌, ◌+◌, ◌*◌, ◌≤◌, ◌<◌, length, take};
 ghost use Rattle.rules.specs.Table.{WIDTH, MOST_ROWS, PREFIX, LOCAL_NAME, URI, VALUE, MAKER, word, xml_prefix};
 ghost use Rattle.rules.specs.Normalization.{numbered_prefix};

@@ -1,4 +1,6 @@
 // Refusal 21: the characters that a value in XML text may not hold.
+#![tactic(auto)]
+
 ghost use Rattle.std.specs.Prelude.{◌≡◌, ◌<◌, length, drop};
 ghost use Rattle.rules.specs.Lists.{all_of};
 ghost use Rattle.characters.specs.Characters.{is_control, starts_forbidden, forbidden_from, is_harmless};

@@ -1,5 +1,7 @@
 // The check of a node table: refusals 1 to 7 and 12 to 14. Each name of the table gets a number, equal
 // exactly where the bytes are equal, and what a name is worth is found once for each number.
+#![tactic(auto)]
+
 ghost use Rattle.std.specs.Prelude.{◌≡◌, ℕ, ◌≤◌, ◌<◌};
 ghost use Rattle.rules.specs.Table.{row_count};
 ghost use Rattle.rules.specs.Refusals.{verdict, checked};

@@ -1,5 +1,7 @@
 // The rows of each element's start tag, and those of its content, as links in row order: an element's record leads to its first one,
 // and each one's record to the next of the same element.
+#![tactic(auto)]
+
 ghost use Rattle.std.specs.Prelude.{◌≡◌, Bool, ℕ, ◌+◌, ◌*◌, ◌≤◌, ◌<◌, length};
 ghost use Rattle.rules.specs.Lists.{is_one_of};
 ghost use Rattle.rules.specs.Table.{MOST_ROWS, row_count};

@@ -1,5 +1,7 @@
 // For each block of a pool, how far no forbidden character starts from the start of the block on: with it a part of any
 // length that holds none is told by the bytes of a block. One pass over the pool finds them.
+#![tactic(auto)]
+
 ghost use Rattle.std.specs.Prelude.{◌≡◌, true, ◌-◌, ◌≤◌, length, take, drop};
 ghost use Rattle.rules.specs.Table.{MOST_BYTES};
 ghost use Rattle.characters.specs.Characters.{forbidden_from};

@@ -1,4 +1,6 @@
 // One step of the climb from a row outward, which writes the elements that it comes to to a path: an array of their row numbers.
+#![tactic(auto)]
+
 ghost use Rattle.std.specs.Prelude.{◌≡◌, cond, ◌&&◌, ◌||◌, ◌+◌, ◌<◌, length, set, eqb, ltb};
 ghost use Rattle.rules.specs.Table.{ENTITY_REFERENCE, row_count, is_element};
 ghost use Rattle.climbing.specs.Steps.{Stepped};
@@ -7,7 +9,7 @@ use rules::Row;
 
 // Where a climb stands after a step: at the row that it goes on to, or at the same one where it ends; and
 // how many places of the path are taken.
-#[derive(Drop)]
+#[derive(Clone, Copy)]
 pub struct Reached {
     pub row: Row,
     pub taken: usize,

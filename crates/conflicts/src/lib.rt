@@ -1,6 +1,8 @@
 // The conflicts of one row: refusals 6 and 7, what makes it a declaration or an attribute that may not
 // stand there. A row without one is entered, and later rows are held against it; whoever goes through
 // the rows decides what becomes of one that has.
+#![tactic(auto)]
+
 ghost use Rattle.std.specs.Prelude.{◌≡◌, List, Bool, ℕ, ◌+◌, ◌*◌, ◌≤◌, ◌<◌, length};
 ghost use Rattle.rules.specs.Table.{row_count, node_at, nodes};
 ghost use Rattle.rules.specs.Refusals.{verdict, bad_declaration};

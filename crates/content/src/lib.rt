@@ -1,4 +1,6 @@
 // An element and all that it holds as markup.
+#![tactic(auto)]
+
 ghost use Rattle.std.specs.Prelude.{◌<◌};
 ghost use Rattle.rules.specs.Table.{row_count, nodes};
 ghost use Rattle.buffers.specs.Writes.{Put};

@@ -1,4 +1,6 @@
 // Lines of text: a label and a count, and no line for 0. Each piece is put behind what was put before it.
+#![tactic(auto)]
+
 ghost use Rattle.std.specs.Prelude.{◌≡◌, ◌+◌, ◌<◌};
 ghost use Rattle.rules.specs.Normalization.{digits};
 ghost use Rattle.buffers.specs.Writes.{Put};

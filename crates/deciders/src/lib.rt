@@ -1,4 +1,6 @@
 // Rows that decide the URI of a prefix: an element by its own name, a declaration by its value.
+#![tactic(auto)]
+
 ghost use Rattle.std.specs.Prelude.{◌≡◌, List, ℕ, ◌*◌, ◌≤◌, ◌<◌, length};
 ghost use Rattle.rules.specs.Table.{node_at, row_count};
 ghost use Rattle.rules.specs.Lookups.{names_uri};

@@ -1,5 +1,7 @@
 // The declarations of an element, and those along a path of elements, by the numbers of their names. A row
 // that is not there is NONE.
+#![tactic(auto)]
+
 ghost use Rattle.std.specs.Prelude.{◌≡◌, cond, List, ℕ, ◌*◌, ◌≤◌, ltb, length};
 ghost use Rattle.rules.specs.Lists.{first_that};
 ghost use Rattle.rules.specs.Table.{nodes, row_count};

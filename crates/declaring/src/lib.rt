@@ -1,5 +1,7 @@
 // The declaration that a row needs, in the working buffers: an element's own is set, or one is appended, and the path of scopes,
 // which stands at the element, has it.
+#![tactic(auto)]
+
 ghost use Rattle.std.specs.Prelude.{ℕ, ◌+◌};
 ghost use Rattle.rules.specs.Table.{node};
 ghost use Rattle.working.specs.Working.{Good, AtOwn, Undeclared, AtTop, SameAttributes, After, valued, declared_for};

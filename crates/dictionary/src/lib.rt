@@ -1,6 +1,8 @@
 // A dictionary of names: each byte string that stands at a place of the pool gets a number, and two
 // places get one number exactly where their bytes are equal. The dictionary is one lent array. Zeros
 // are a dictionary in which only the empty name has a number, 0.
+#![tactic(auto)]
+
 ghost use Rattle.std.specs.Prelude.{◌≡◌, List, ℕ, ◌+◌, ◌*◌, ◌≤◌, ◌<◌, length, get_or, eqb, ◌&&◌};
 ghost use Rattle.rules.specs.Table.{MOST_BYTES, part};
 ghost use Rattle.kinds.specs.Kinds.{kind_of};

@@ -2,6 +2,8 @@
 // type and name, so that a row is compared only with those that share its bucket. Names are compared by
 // the numbers that are noted of the rows. Testing a row and entering it are two steps: whoever goes
 // through the rows decides which are entered.
+#![tactic(auto)]
+
 ghost use Rattle.std.specs.Prelude.{◌≡◌, List, Bool, true, cond, ℕ, ◌+◌, ◌*◌, ◌≤◌, ◌<◌, length, ltb};
 ghost use Rattle.rules.specs.Table.{row_count, nodes};
 ghost use Rattle.chains.specs.Chains.{latest};
@@ -17,7 +19,7 @@ const BUCKETS: usize = 1024;
 pub const WORDS: usize = BUCKETS + rules::MOST_ROWS + 1;
 
 // What decides whether rows are doubles.
-#[derive(Drop)]
+#[derive(Clone, Copy)]
 pub struct Key {
     pub owner: Row,
     pub kind: u32,

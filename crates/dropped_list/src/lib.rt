@@ -1,5 +1,7 @@
 // The list of the rows that are dropped: two words for each, rows ascending, its number in the table that is salvaged and the
 // number of the refusal that it is dropped for.
+#![tactic(auto)]
+
 ghost use Rattle.std.specs.Prelude.{◌≡◌, false, cond, ◌+◌, ◌-◌, ◌*◌, ◌≤◌, ◌<◌, eqb, length, get_or, set};
 ghost use Rattle.rules.specs.Table.{MOST_ROWS};
 ghost use Rattle.rules.specs.Outputs.{padded};

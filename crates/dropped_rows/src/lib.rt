@@ -1,1 +1,2 @@
 // Which rows of a table salvage drops, and which it keeps.
+#![tactic(auto)]

@@ -1,4 +1,6 @@
 // Steps 1 to 3 of normalization for one element and its attributes, in the working buffers.
+#![tactic(auto)]
+
 ghost use Rattle.std.specs.Prelude.{ℕ, ◌+◌};
 ghost use Rattle.rules.specs.Normalization.{normalize_row};
 ghost use Rattle.element_steps.specs.Buffers.{AtRow, Done};

@@ -1,4 +1,6 @@
 // The text of an element that is not refused, in an output.
+#![tactic(auto)]
+
 ghost use Rattle.std.specs.Prelude.{◌≡◌, [], ℕ, ◌*◌, ◌≤◌, ◌<◌, length, set};
 ghost use Rattle.std.proofs.Math.Option.{none};
 ghost use mir.Val.{bool_byte};

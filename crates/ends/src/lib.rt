@@ -1,5 +1,7 @@
 // For each block of a pool, a place up to which every byte from the start of the block on is one of a name: with it a
 // long name is judged by the bytes of a block or two. Zeros tell nothing.
+#![tactic(auto)]
+
 ghost use Rattle.std.specs.Prelude.{◌≡◌, ◌+◌, ◌≤◌, ◌<◌, length};
 ghost use Rattle.rules.specs.Lists.{all_of};
 ghost use Rattle.rules.specs.Refusals.{is_name_byte, good_name};

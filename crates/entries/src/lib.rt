@@ -1,6 +1,8 @@
 // The entries of a dictionary: the heads of the chains, the last number given, how hard the names are for the plain
 // hash, the tables of the pool, and five words for each number. They are found along the chain of a hash, and take one
 // more.
+#![tactic(auto)]
+
 ghost use Rattle.std.specs.Prelude.{◌≡◌, ◌+◌, ◌*◌, ◌≤◌, ◌<◌, length};
 ghost use Rattle.chains.specs.Chains.{latest};
 ghost use Rattle.tables.specs.Tables.{hash_in};
@@ -37,7 +39,7 @@ pub const KIND: usize = 4;
 pub const MUCH: u16 = 512;
 
 // What a search found: the number of the name, 0 where it is not entered, and how many others it went past.
-#[derive(Drop)]
+#[derive(Clone, Copy)]
 pub struct Found {
     pub number: NameId,
     pub others: usize,

@@ -1,4 +1,6 @@
 // Values in XML text: what is left of a value with its escapes, byte by byte.
+#![tactic(auto)]
+
 ghost use Rattle.std.specs.Prelude.{◌≡◌, ◌≤◌, length, drop};
 ghost use Rattle.buffers.specs.Writes.{Put};
 ghost use Rattle.escapes.specs.Escapes.{escaped};

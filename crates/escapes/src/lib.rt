@@ -1,1 +1,2 @@
 // The escapes of values in XML text.
+#![tactic(auto)]

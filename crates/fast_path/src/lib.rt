@@ -1,6 +1,8 @@
 // Rows as most are, accepted by the check at one look each: their names get the numbers that are
 // remembered, and they are entered among the rows with which others are compared. The first row that is
 // not plain ends the pass; so does one that is a double. Neither is refused here.
+#![tactic(auto)]
+
 ghost use Rattle.std.specs.Prelude.{◌≡◌, true, false, ℕ, ◌+◌, ◌*◌, ◌≤◌, ◌<◌, length};
 ghost use Rattle.rules.specs.Lists.{all_of};
 ghost use Rattle.rules.specs.Table.{row_count};

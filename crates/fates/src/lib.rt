@@ -1,5 +1,7 @@
 // What becomes of each row of a table that is salvaged, a word for each beside the table: 0 where the row is kept, and else
 // the number, 6 or 7, of the refusal that it is dropped for.
+#![tactic(auto)]
+
 ghost use Rattle.std.specs.Prelude.{◌≡◌, not, ◌<◌, eqb, length, get_or, set};
 ghost use Rattle.rules.specs.Answers.{check_number};
 

@@ -1,6 +1,8 @@
 // The faults of one row: refusals 2, 3, 12, 13, 14, 4 and 5, in this order. A row with a fault is no row
 // to go on with, whatever else stands in the table; what makes a row a conflict with others, 6 and 7, is
 // told apart.
+#![tactic(auto)]
+
 ghost use Rattle.std.specs.Prelude.{◌≡◌, ℕ, ◌*◌, ◌≤◌, ◌<◌, length};
 ghost use Rattle.rules.specs.Table.{MOST_ROWS, MOST_BYTES, row_count, node_at};
 ghost use Rattle.rules.specs.Refusals.{verdict};

@@ -1,4 +1,6 @@
 // The figures of session bundles: what is counted of the normalization of each, and their totals.
+#![tactic(auto)]
+
 ghost use Rattle.std.specs.Prelude.{◌≡◌};
 ghost use Rattle.figures.specs.Figures.{refused_figures};
 
@@ -8,7 +10,7 @@ use rules::Refusal;
 // it had, the declarations that were appended, those whose value was changed, and the rows whose prefix was. These are 0 where
 // it was refused.
 #[repr(C)]
-#[derive(Drop)]
+#[derive(Clone, Copy)]
 pub struct Figures {
     pub number: u32,
     pub rows: u32,

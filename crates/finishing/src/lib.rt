@@ -1,4 +1,6 @@
 // The end of a normalization into lent outputs: the room for its result is judged, and the outputs are completed or refused.
+#![tactic(auto)]
+
 ghost use Rattle.std.specs.Prelude.{◌≡◌, ◌*◌, ◌≤◌, length};
 ghost use Rattle.rules.specs.Table.{WIDTH};
 ghost use Rattle.outputs.specs.Ended.{ended};

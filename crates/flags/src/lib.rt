@@ -1,4 +1,6 @@
 // Rows that are flagged, a word for each row, and which of them have a name that means a URI.
+#![tactic(auto)]
+
 ghost use Rattle.std.specs.Prelude.{◌≡◌, ◌≤◌, ◌<◌, length, get_or, eqb};
 ghost use Rattle.rules.specs.Table.{row_count};
 ghost use Rattle.flags.specs.Named.{is_named};

@@ -1,5 +1,7 @@
 // Frames of a stream: each is a bundle behind its length. Of a frame its first bytes are kept as they come, as many as the
 // largest bundle has; of those behind them only the number is.
+#![tactic(auto)]
+
 ghost use Rattle.std.specs.Prelude.{◌≡◌, List, ◌++◌, ℕ, ◌+◌, ◌^◌, ◌≤◌, ◌<◌, length, take, drop, eqb, ltb};
 ghost use Rattle.bundles.specs.Bundles.{HEADER};
 ghost use Rattle.figures.specs.Stream.{LENGTH, MOST_BUNDLES};

@@ -1,5 +1,7 @@
 // The prefix that a new declaration for an attribute may have: its own, if that is free in scope, or the NS prefix of the least
 // free number, whose name gets a number.
+#![tactic(auto)]
+
 ghost use Rattle.std.specs.Prelude.{◌≡◌, List, ℕ, ◌+◌, ◌*◌, ◌≤◌, ◌<◌, length};
 ghost use Rattle.stacks.specs.Stacks.{TOPS, PATH, NUMBERED, under_at};
 ghost use Rattle.bindings.specs.Asking.{Asked, is_used, Searched, LeastUnused};

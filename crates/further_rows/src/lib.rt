@@ -1,4 +1,6 @@
 // Refusal 43 of the rows that a proposal adds: further rows that are no declarations.
+#![tactic(auto)]
+
 ghost use Rattle.std.specs.Prelude.{◌≡◌, ◌≤◌, length};
 ghost use Rattle.rules.specs.Table.{MOST_ROWS, row_count, nodes};
 ghost use Rattle.rules.specs.Refusals.{verdict};

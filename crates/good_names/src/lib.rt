@@ -1,4 +1,6 @@
 // Good names: which bytes a prefix or a local name may have.
+#![tactic(auto)]
+
 ghost use Rattle.std.specs.Prelude.{◌≡◌};
 ghost use Rattle.rules.specs.Refusals.{is_first_byte, is_name_byte, good_name};
 

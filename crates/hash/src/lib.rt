@@ -1,6 +1,8 @@
 // The hash of a name: from its length and its bytes, by eights from the end. Of a name that is not whole
 // eights the last one overlaps the one before it. There is no key in it, so names can be made that all
 // share a bucket; each then costs a walk past all the others.
+#![tactic(auto)]
+
 ghost use Rattle.std.specs.Prelude.{◌≡◌, ◌+◌, ◌≤◌, ◌<◌, length};
 ghost use Rattle.hash.specs.Hash.{four, mixed, mixed_long, mixed_short, hash_of};
 

@@ -2,6 +2,8 @@
 // by their hashes changes the key. A step is a product of two halves of the state. A second pass begins with what the
 // first left, so that a byte at the end of the pool counts from its first step on; a third one, since bytes that take
 // two states to two others can be searched for by meeting in the middle.
+#![tactic(auto)]
+
 ghost use Rattle.std.specs.Prelude.{◌≤◌, ◌<◌, length};
 ghost use Rattle.keyed.specs.Keyed.{PRIME, MOST};
 

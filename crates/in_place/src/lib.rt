@@ -1,6 +1,8 @@
 // Namespace normalization in place, of the first rows of a table and the first bytes of a working pool, by the
 // limits of a table. Success answers the rows and bytes of the result, which then stand there; what stands
 // behind them is not told.
+#![tactic(auto)]
+
 ghost use Rattle.std.specs.Prelude.{◌*◌, ◌≤◌, take};
 ghost use Rattle.rules.specs.Table.{WIDTH};
 ghost use Rattle.table_size.specs.Small.{FEW_ROWS};

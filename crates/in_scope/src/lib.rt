@@ -1,5 +1,7 @@
 // What is in scope along a path of elements by declarations alone: the URI of a prefix, and a prefix of a URI. Names are asked
 // for by their numbers. A row that is not there is NONE.
+#![tactic(auto)]
+
 ghost use Rattle.std.specs.Prelude.{◌≡◌, false, List, ℕ, ◌<◌};
 ghost use Rattle.rules.specs.Lists.{first_that, same_bytes};
 ghost use Rattle.rules.specs.Table.{TYPE, DECLARATION, xml_uri, word, nodes, node_at, row_count};

@@ -1,4 +1,6 @@
 // Refusal 24 of one row: whether an element inherits anything, and whether a declaration is inherited where the scope stands.
+#![tactic(auto)]
+
 ghost use Rattle.std.specs.Prelude.{◌≡◌, ◌+◌, ◌*◌, ◌≤◌, ◌<◌, length};
 ghost use Rattle.rules.specs.Table.{MOST_ROWS, row_count};
 ghost use Rattle.notes.specs.Notes.{NOTES, LOCAL_NAME, note_at};

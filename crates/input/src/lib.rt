@@ -1,4 +1,6 @@
 // The input of normalization: the refusals that it draws whatever its result, or the numbers of its names.
+#![tactic(auto)]
+
 ghost use Rattle.std.specs.Prelude.{◌≡◌, ℕ, ◌≤◌, ◌<◌, length, get_or};
 ghost use Rattle.std.proofs.Math.Option.{some};
 ghost use Rattle.rules.specs.Table.{row_count};
@@ -23,7 +25,7 @@ pub const NOTES: usize = checker::NOTES;
 pub const PATH: usize = stacks::PATH * rules::MOST_ROWS + stacks::PATH;
 
 // How many names of the input have numbers, or a refusal.
-#[derive(Drop)]
+#[derive(Clone, Copy)]
 pub enum Judged {
     Numbered(u16),
     Refused(Refusal),

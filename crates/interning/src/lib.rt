@@ -1,5 +1,7 @@
 // The number of a name among those entered: of the name at a place, which is entered where it is new, and of any name. On
 // the way it is counted how hard the names are for the plain hash.
+#![tactic(auto)]
+
 ghost use Rattle.std.specs.Prelude.{◌≡◌, ℕ, ◌+◌, ◌≤◌, ◌<◌, length, get_or, set};
 ghost use Rattle.rules.specs.Table.{part};
 ghost use Rattle.chains.specs.Chains.{latest};

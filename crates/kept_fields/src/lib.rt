@@ -1,5 +1,7 @@
 // The fields of one row that a proposal keeps: a row of the original, and the proposal's row of the same number. Names are held
 // against each other by their numbers, values by their bytes. The proposal's pool is the other one.
+#![tactic(auto)]
+
 ghost use Rattle.std.specs.Prelude.{◌≡◌, true, ◌&&◌, ◌||◌, not, ◌<◌, eqb};
 ghost use Rattle.rules.specs.Lists.{same_bytes};
 ghost use Rattle.rules.specs.Table.{NONE, TYPE, PREFIX, LOCAL_NAME, URI, VALUE, ATTRIBUTE, DECLARATION, row_count, word, field_at};

@@ -1,5 +1,7 @@
 // Refusal 43: the rows of an original that a proposal does not keep, and further rows that are no declarations. The proposal's
 // pool is the other one. A row of DOM Level 1 ends the comparison too: what it is refused for comes first.
+#![tactic(auto)]
+
 ghost use Rattle.std.specs.Prelude.{◌≡◌, true, ◌&&◌, not, ◌<◌, length};
 ghost use Rattle.std.proofs.Math.Option.{none};
 ghost use Rattle.rules.specs.Table.{row_count, node_at, nodes, is_level1};

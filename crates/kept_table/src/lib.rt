@@ -1,5 +1,7 @@
 // The rows of a table that are kept, written to another in their order: each as it was, but for its parent, which gets the
 // number that the same row has there.
+#![tactic(auto)]
+
 ghost use Rattle.std.specs.Prelude.{◌≡◌, ◌⊎◌, cond, ◌+◌, ◌*◌, ◌≤◌, ◌<◌, eqb, length, get_or};
 ghost use Rattle.rules.specs.Table.{WIDTH, NONE, PARENT, word, row_count};
 ghost use Rattle.buffers.specs.Writes.{written};

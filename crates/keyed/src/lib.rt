@@ -1,12 +1,14 @@
 // Hashes of byte strings by two polynomials over a prime, at two bases, the key. Where the polynomials of the bytes up
 // to two places are known, that of the bytes between follows.
+#![tactic(auto)]
+
 ghost use Rattle.std.specs.Prelude.{◌≡◌, ◌+◌, ◌-◌, ◌%◌, ◌≤◌, ◌<◌};
 ghost use Rattle.keyed.specs.Keyed.{PRIME, pushed, sum_from, raised_from};
 
 const PRIME: u64 = 4294967087;
 
 // Two polynomials, two bases or two powers.
-#[derive(Drop)]
+#[derive(Clone, Copy)]
 pub struct Pair {
     pub one: u32,
     pub two: u32,

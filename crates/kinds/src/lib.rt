@@ -1,4 +1,6 @@
 // What a name is, as far as the rules ask.
+#![tactic(auto)]
+
 ghost use Rattle.std.specs.Prelude.{◌≡◌, Bool, true, false};
 ghost use Rattle.rules.specs.Lists.{all_of};
 ghost use Rattle.rules.specs.Refusals.{good_name};

@@ -1,4 +1,6 @@
 // Refusal 9: rows of DOM Level 1.
+#![tactic(auto)]
+
 ghost use Rattle.std.specs.Prelude.{◌≡◌, List, ℕ, ◌≤◌};
 ghost use Rattle.rules.specs.Table.{MOST_ROWS, row_count, nodes};
 ghost use Rattle.rules.specs.Refusals.{verdict};

@@ -1,4 +1,6 @@
 // Steps 1 to 3 of normalization for the elements among listed rows, in row order, in the working buffers.
+#![tactic(auto)]
+
 ghost use Rattle.std.specs.Prelude.{◌≡◌, Bool, true, ℕ, ◌≤◌, ◌<◌, length};
 ghost use Rattle.rules.specs.Table.{MOST_ROWS, ATTRIBUTE, row_count};
 ghost use Rattle.notes.specs.Notes.{FIRST, note_at, HasNotes};

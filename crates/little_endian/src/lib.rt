@@ -1,4 +1,6 @@
 // Numbers of two and four bytes, and words, read from bytes and written to them, the lowest byte first.
+#![tactic(auto)]
+
 ghost use Rattle.std.specs.Prelude.{◌≡◌, ◌+◌, ◌*◌, ◌%◌, ◌≤◌, ◌<◌, length};
 ghost use Rattle.buffers.specs.Writes.{written};
 ghost use Rattle.little_endian.specs.Numbers.{bytes_of, number_at, word_bytes, words_from};

@@ -1,4 +1,6 @@
 // Answers that are a place, nothing or a refusal, as those of a lookup that finds no built-in.
+#![tactic(auto)]
+
 ghost use Rattle.std.specs.Prelude.{◌≡◌};
 ghost use Rattle.rules.specs.Lookups.{without_built_ins};
 

@@ -1,5 +1,7 @@
 // Bundles that are longer than any legal one. What such a one is refused for is told by its header and the number of its
 // bytes, so that the others need not be kept.
+#![tactic(auto)]
+
 ghost use Rattle.std.specs.Prelude.{◌≡◌, List, ℕ, ◌<◌, length, take};
 ghost use Rattle.std.proofs.Math.Option.{some};
 ghost use Rattle.bundles.specs.Bundles.{HEADER};

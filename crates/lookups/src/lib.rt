@@ -1,5 +1,7 @@
 // The lookups of a node table, and two more that hand back the part of the pool that was found. Each asks the one lookup its
 // question. None writes anything.
+#![tactic(auto)]
+
 ghost use Rattle.std.specs.Prelude.{◌≡◌, ◌+◌};
 ghost use Rattle.rules.specs.Lookups.{uri_of_prefix_at, prefix_of_uri_at, default_uri_at, in_scope_uri_at, in_scope_prefix_at, bound_part, located_part};
 ghost use Rattle.rules.specs.Answers.{bound_place, located_place};

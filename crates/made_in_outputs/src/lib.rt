@@ -1,5 +1,7 @@
 // The result of an input that draws none of the refusals of an input, made in lent outputs, by the rows that the output table
 // holds.
+#![tactic(auto)]
+
 ghost use Rattle.std.specs.Prelude.{◌≡◌, length};
 ghost use Rattle.rules.specs.Table.{row_count};
 ghost use Rattle.rules.specs.Normalization.{normalized};

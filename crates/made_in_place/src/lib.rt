@@ -1,5 +1,7 @@
 // The result of an input that draws none of the refusals of an input, made in place: in the first rows of a table and the
 // first bytes of a working pool, by the limits of a table.
+#![tactic(auto)]
+
 ghost use Rattle.std.specs.Prelude.{◌*◌, take};
 ghost use Rattle.rules.specs.Table.{WIDTH};
 ghost use Rattle.input.specs.Lent.{Enough, Prepared};

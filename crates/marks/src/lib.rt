@@ -1,6 +1,8 @@
 // Marks in a pool, one for each block of it: where the first sequence behind the start of the block begins, and a
 // place behind it, mostly far, up to which the bytes are well-formed. With them a part of any length is judged by the
 // bytes of a block or two. Zeros are marks that tell nothing.
+#![tactic(auto)]
+
 ghost use Rattle.std.specs.Prelude.{◌≡◌, ◌≤◌, ◌<◌, length};
 ghost use Rattle.rules.specs.Utf8.{is_in, tail, well_formed};
 ghost use Rattle.marks.specs.Marks.{MOST, WORDS, between, Start, Mark, Marked};

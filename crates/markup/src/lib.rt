@@ -1,1 +1,2 @@
 // The markup of the tree of an element.
+#![tactic(auto)]

@@ -1,4 +1,6 @@
 // Names in markup: those of elements, attributes and declarations, as their rows have them.
+#![tactic(auto)]
+
 ghost use Rattle.std.specs.Prelude.{◌≡◌, ◌<◌};
 ghost use Rattle.rules.specs.Table.{row_count, field_at, node_at};
 ghost use Rattle.rows.specs.Reading.{HasField};

@@ -1,4 +1,6 @@
 // What the rows of a subtree are refused for: 20, a row without markup, and 21, a value with a forbidden character.
+#![tactic(auto)]
+
 ghost use Rattle.std.specs.Prelude.{◌≡◌, ◌&&◌, List, [], ◌∷◌, ℕ, ◌≤◌, ◌<◌, length};
 ghost use Rattle.std.proofs.Math.Option.{none};
 ghost use Rattle.rules.specs.Lists.{is_one_of};

@@ -1,4 +1,6 @@
 // Values in markup: a text row, and the value of an attribute or a declaration.
+#![tactic(auto)]
+
 ghost use Rattle.std.specs.Prelude.{◌≡◌, true, false, ◌*◌, ◌<◌, eqb, length, get_or, drop};
 ghost use Rattle.rules.specs.Table.{VALUE, row_count, node_at, word};
 ghost use Rattle.buffers.specs.Writes.{Put};

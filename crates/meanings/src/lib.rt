@@ -1,6 +1,8 @@
 // What the names of a subtree mean in scope, and what it inherits: refusals 23 and 24. The
 // stacks of what is in scope go through the rows in row order. Where no row of the whole table is refused, which is the
 // usual case, one pass tells.
+#![tactic(auto)]
+
 ghost use Rattle.std.specs.Prelude.{◌≡◌, true, false, List, [], ◌∷◌, ℕ, ◌+◌, ◌*◌, ◌≤◌, ◌<◌, length};
 ghost use Rattle.rules.specs.Table.{MOST_ROWS, TYPE, row_count, nodes, node, word, is_element};
 ghost use Rattle.rules.specs.Refusals.{first_refusal, verdict};

@@ -1,4 +1,6 @@
 // The rows of a bundle that have a field at another place in a table that was made from it.
+#![tactic(auto)]
+
 ghost use Rattle.std.specs.Prelude.{◌≡◌, ◌+◌, ◌*◌, ◌≤◌, ◌<◌, length};
 ghost use Rattle.rules.specs.Table.{WIDTH, MOST_ROWS, PREFIX, VALUE};
 ghost use Rattle.bundles.specs.Bundles.{HEADER, ROW_BYTES, OLD_ROW_BYTES, row_bytes};
@@ -10,7 +12,7 @@ const PREFIX: usize = rules::PREFIX as usize;
 const VALUE: usize = rules::VALUE as usize;
 
 // How many rows have their prefix at another place, and how many their value.
-#[derive(Drop)]
+#[derive(Clone, Copy)]
 pub struct MovedFields {
     pub prefixes: u32,
     pub values: u32,

@@ -1,5 +1,7 @@
 // Going from one row to another with the arrays that hold what is in scope: which rows are left, and
 // which are entered. A position is a row counted from 1; 0 is no row.
+#![tactic(auto)]
+
 ghost use Rattle.std.specs.Prelude.{◌≤◌, ◌<◌};
 ghost use Rattle.rules.specs.Table.{row_count};
 ghost use Rattle.stacks.specs.Stacks.{Untouched};

@@ -1,5 +1,7 @@
 // Numbers of the names of two tables, held against each other: the bytes of a pair of numbers are compared once. One lent array
 // has a word for each number of the first table: 0, or 1 more than the number of the second that stands for the same bytes.
+#![tactic(auto)]
+
 ghost use Rattle.std.specs.Prelude.{◌≡◌, List, ℕ, ◌+◌, ◌<◌, length, get_or, eqb};
 ghost use Rattle.rules.specs.Lists.{same_bytes};
 ghost use Rattle.rules.specs.Table.{part};

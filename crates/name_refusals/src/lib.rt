@@ -1,4 +1,6 @@
 // Refusals 14, 4 and 5 of one row for its names, in their order.
+#![tactic(auto)]
+
 ghost use Rattle.std.specs.Prelude.{◌≡◌, ◌<◌};
 ghost use Rattle.rules.specs.Table.{VALUE, row_count, field_at, node_at};
 ghost use Rattle.rules.specs.Utf8.{well_formed};

@@ -1,4 +1,6 @@
 // Which prefix is known to stand for which URI at which position, remembered in slots, one lent array.
+#![tactic(auto)]
+
 ghost use Rattle.std.specs.Prelude.{◌≡◌, true, ◌&&◌, ℕ, ◌+◌, ◌*◌, ◌≤◌, ◌<◌, eqb, length};
 ghost use Rattle.rules.specs.Table.{row_count};
 ghost use Rattle.notes.specs.Notes.{NOTES, PREFIX, URI, note_at};

@@ -1,4 +1,6 @@
 // Equality of byte strings.
+#![tactic(auto)]
+
 ghost use Rattle.std.specs.Prelude.{◌≡◌, length};
 ghost use Rattle.rules.specs.Lists.{same_bytes};
 

@@ -1,5 +1,7 @@
 // The nearest row outward that declares something, as a pass over the rows notes it: where a row declares nothing, what is in
 // scope at it is what is in scope there.
+#![tactic(auto)]
+
 ghost use Rattle.std.specs.Prelude.{◌≡◌, List, ℕ, ◌+◌, ◌<◌};
 ghost use Rattle.rules.specs.Table.{PARENT, row_count, word};
 ghost use Rattle.scopes.specs.Standing.{Ready};

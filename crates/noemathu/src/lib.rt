@@ -1,5 +1,7 @@
 // The functions that a C host calls, declared in include/noemathu.h: each takes bytes and numbers, and hands over its whole
 // answer.
+#![tactic(auto)]
+
 ghost use Rattle.std.specs.Prelude.{◌≡◌, length};
 ghost use Rattle.answers.specs.Given.{check_given, located_given, bound_given};
 ghost use Rattle.output_answers.specs.Given.{filled_given, written_given};

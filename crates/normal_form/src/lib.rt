@@ -1,4 +1,6 @@
 // The normal form of an accepted table and its pool, made in working buffers.
+#![tactic(auto)]
+
 ghost use Rattle.std.specs.Prelude.{◌≡◌, ℕ, ◌*◌, ◌≤◌, ◌<◌, min};
 ghost use Rattle.rules.specs.Table.{MOST_ROWS, row_count, nodes};
 ghost use Rattle.rules.specs.Normalization.{normal_form};

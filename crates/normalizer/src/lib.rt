@@ -1,4 +1,6 @@
 // Namespace normalization into lent buffers.
+#![tactic(auto)]
+
 ghost use Rattle.std.specs.Prelude.{◌≡◌, length};
 ghost use Rattle.rules.specs.Table.{row_count};
 ghost use Rattle.rules.specs.Normalization.{normalized};

@@ -1,6 +1,8 @@
 // What is noted of each row beside the table: the numbers of its names, and links between the rows that
 // an element owns. One lent array holds it, eight words for each row. In the links rows are counted
 // from 1 (a row's position), since 0 is no row.
+#![tactic(auto)]
+
 ghost use Rattle.std.specs.Prelude.{◌≡◌, ◌+◌, ◌-◌, ◌*◌, ◌≤◌, ◌<◌, length};
 ghost use Rattle.notes.specs.Notes.{NOTES, note_at, noted};
 

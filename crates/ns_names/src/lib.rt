@@ -1,5 +1,7 @@
 // The names NSk that normalization makes: the number k of such a name, and which names of a dictionary
 // are such.
+#![tactic(auto)]
+
 ghost use Rattle.std.specs.Prelude.{◌≡◌, ℕ};
 ghost use Rattle.dictionary.specs.Dictionary.{last_of, spelling, Dictionary};
 ghost use Rattle.ns_names.specs.Numbers.{follows, number_of};

@@ -1,5 +1,7 @@
 // The names of one row get their numbers, which are noted of the row, and what each name is is told with
 // them, so that no byte of it is read again.
+#![tactic(auto)]
+
 ghost use Rattle.std.specs.Prelude.{◌≡◌, ◌+◌, ◌*◌, ◌≤◌, ◌<◌, length};
 ghost use Rattle.std.proofs.Math.Option.{none};
 ghost use Rattle.rules.specs.Table.{MOST_BYTES, TYPE, DECLARATION, row_count, word, field_at, node_at};

@@ -1,4 +1,6 @@
 // The rows of a session bundle from before makers: ten words each. They are read as rows of maker 0.
+#![tactic(auto)]
+
 ghost use Rattle.std.specs.Prelude.{◌≡◌, [], ◌∷◌, ◌++◌, ◌*◌, ◌≤◌, length};
 ghost use Rattle.rules.specs.Table.{WIDTH};
 ghost use Rattle.buffers.specs.Writes.{written};

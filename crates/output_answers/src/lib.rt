@@ -1,4 +1,6 @@
 // RULES 2: the number and values of the answers of operations that fill outputs, as structs that C reads too.
+#![tactic(auto)]
+
 ghost use Rattle.std.specs.Prelude.{◌≡◌};
 ghost use Rattle.output_answers.specs.Given.{filled_given, written_given};
 
@@ -7,7 +9,7 @@ use rules::{Filled, Row, Written};
 
 // The rows and bytes of two outputs that are used; 0 for a refusal.
 #[repr(C)]
-#[derive(Drop)]
+#[derive(Clone, Copy)]
 pub struct Sizes {
     pub number: Number,
     pub rows: usize,
@@ -16,7 +18,7 @@ pub struct Sizes {
 
 // The bytes of an output that are used; 0 for a refusal.
 #[repr(C)]
-#[derive(Drop)]
+#[derive(Clone, Copy)]
 pub struct Used {
     pub number: Number,
     pub bytes: usize,

@@ -1,4 +1,6 @@
 // The output table and the output pool that an operation fills: how many rows may stand in them, and what is left in them at the end.
+#![tactic(auto)]
+
 ghost use Rattle.std.specs.Prelude.{◌≡◌, length};
 ghost use Rattle.rules.specs.Refusals.{verdict};
 ghost use Rattle.rules.specs.Outputs.{refusal};

@@ -1,5 +1,7 @@
 // What the lookups that see elements' own names find along a path, from its first element outward: here
 // the URI of a prefix. Names are asked for by their numbers.
+#![tactic(auto)]
+
 ghost use Rattle.std.specs.Prelude.{◌≡◌, List, ℕ};
 ghost use Rattle.rules.specs.Table.{nodes};
 ghost use Rattle.rules.specs.Lookups.{uri_of_prefix, bound};

@@ -1,5 +1,7 @@
 // The packed form of an accepted table as a bundle: the packed pool is written to where it stands in the bundle, and the header and
 // the rows before it.
+#![tactic(auto)]
+
 ghost use Rattle.std.specs.Prelude.{◌≡◌, List, ℕ, ◌+◌, ◌*◌, ◌≤◌, ◌<◌, length, take, drop};
 ghost use Rattle.rules.specs.Table.{WIDTH, MOST_ROWS, MOST_BYTES};
 ghost use Rattle.rules.specs.declared.Refusal.{Refusal};

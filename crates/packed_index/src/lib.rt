@@ -1,6 +1,8 @@
 // The names of the packed pool, found along the chains of their hashes, and one more behind them. One lent array holds the heads of
 // the chains, how many names there are, how many bytes they have, how hard they are for the plain hash, a stretch of the pool that
 // repeats itself, the places seen, and five words for each name, counted from 1. Zeros are the index of no names.
+#![tactic(auto)]
+
 ghost use Rattle.std.specs.Prelude.{◌≡◌, List, ℕ, ◌+◌, ◌*◌, ◌≤◌, ◌<◌, length, get_or};
 ghost use Rattle.chains.specs.Chains.{latest};
 ghost use Rattle.packed_index.specs.Index.{USED, SLOTS, ENTRIES, WIDTH, count_of, word, seen, name_at, is_named, Chains, HasRoom, followed};
@@ -50,7 +52,7 @@ pub const MARK: usize = 4;
 pub const EMPTY_WORDS: usize = ENTRIES + WIDTH;
 
 // What a search found: the number of the name, 0 where there is none, and how many others it went past.
-#[derive(Drop)]
+#[derive(Clone, Copy)]
 pub struct Found {
     pub number: NameId,
     pub others: usize,

@@ -1,5 +1,7 @@
 // The packed pool as it grows in an output. What stands in it is found by its bytes, and a new name is written behind the others. A
 // place that was seen before is found at once.
+#![tactic(auto)]
+
 ghost use Rattle.std.specs.Prelude.{◌≡◌, List, ◌&&◌, ℕ, ◌+◌, ◌≤◌, ◌<◌, eqb, length, get_or, set};
 ghost use Rattle.rules.specs.Table.{MOST_BYTES, part};
 ghost use Rattle.buffers.specs.Writes.{written};

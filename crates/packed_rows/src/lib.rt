@@ -1,6 +1,8 @@
 // One row of a table over the packed pool. Its output row is a copy; its four fields are entered in word order, and those that have
 // bytes get the offsets that they have there. Names are found by the numbers that are noted of the row, and other values by their
 // bytes.
+#![tactic(auto)]
+
 ghost use Rattle.std.specs.Prelude.{◌≡◌, List, [], ◌∷◌, ℕ, ◌+◌, ◌-◌, ◌*◌, ◌≤◌, ◌<◌, length, set, ltb};
 ghost use Rattle.rules.specs.Table.{WIDTH, VALUE, field_at};
 ghost use Rattle.rows.specs.Reading.{HasField};

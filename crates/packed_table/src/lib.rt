@@ -1,5 +1,7 @@
 // All rows of a table over the packed pool. Where values make the names hard for the plain hash, the rows are packed from the first
 // on once more, with the hash of a key.
+#![tactic(auto)]
+
 ghost use Rattle.std.specs.Prelude.{◌≡◌, false, ◌&&◌, List, ℕ, ◌+◌, ◌≤◌, length, get_or};
 ghost use Rattle.entries.specs.Entries.{NAMES, WIDTH, tables_of};
 ghost use Rattle.dictionary.specs.Dictionary.{PLACES, entries_of, Dictionary};
@@ -10,7 +12,7 @@ ghost use Rattle.packed_table.specs.Packed.{Enough, Blank, Noted, Start, TablePa
 use rules::Row;
 
 // What packing made: whether the packed pool fits, and how many bytes it has.
-#[derive(Drop)]
+#[derive(Clone, Copy)]
 pub struct Packed {
     pub fits: bool,
     pub used: usize,

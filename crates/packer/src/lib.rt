@@ -1,5 +1,7 @@
 // Packing into lent buffers: a table over a pool that is each distinct non-empty field once, end to end, in order of first use by
 // row and then word.
+#![tactic(auto)]
+
 ghost use Rattle.std.specs.Prelude.{◌≡◌, List, ℕ, ◌/◌, ◌≤◌, length};
 ghost use Rattle.rules.specs.Table.{WIDTH, row_count};
 ghost use Rattle.table_size.specs.Small.{FEW_ROWS};

@@ -1,6 +1,8 @@
 // Parts of two pools, held against each other. A pair of places whose bytes were found equal is remembered in a slot, and
 // its bytes are not looked at again as long as no other pair takes the slot; short parts are compared each time. The slots
 // are one lent array; zeros remember the two empty parts.
+#![tactic(auto)]
+
 ghost use Rattle.std.specs.Prelude.{◌≡◌, true, ◌&&◌, ◌≤◌, ◌<◌, length, eqb};
 ghost use Rattle.rules.specs.Lists.{same_bytes};
 ghost use Rattle.rules.specs.Table.{part};

@@ -1,5 +1,7 @@
 // What a part of the pool is as a name. A long part is judged by the marks and the ends of the pool, which tell of most
 // of its bytes without a look at them.
+#![tactic(auto)]
+
 ghost use Rattle.std.specs.Prelude.{◌≡◌, ◌≤◌, true, false, length};
 ghost use Rattle.marks.specs.Marks.{MOST, between};
 ghost use Rattle.kinds.specs.Kinds.{kind_of};

@@ -1,6 +1,8 @@
 // Rows as most are, told at one look: an element, an attribute or a text under an element, whose names are
 // empty or stand at places that are remembered. All its tests are joined; of any other row, one with a
 // fault among them, nothing is told, and whoever asks goes through the tests one after the other.
+#![tactic(auto)]
+
 ghost use Rattle.std.specs.Prelude.{◌≡◌, true, false, ◌&&◌, not, ◌+◌, ◌≤◌, ◌<◌, length, eqb, leb};
 ghost use Rattle.rules.specs.Lists.{all_of};
 ghost use Rattle.rules.specs.Table.{MOST_ROWS, TYPE, ELEMENT, ATTRIBUTE, TEXT, row_count, word, field_at};
@@ -15,7 +17,7 @@ use rows::wide;
 use rules::{NameId, Place, Row};
 
 // Whether a row is plain. If it is, what is read of it: its owner, its type and the numbers of its names.
-#[derive(Drop)]
+#[derive(Clone, Copy)]
 pub struct Told {
     pub plain: bool,
     pub owner: Row,
@@ -26,7 +28,7 @@ pub struct Told {
 }
 
 // Whether the name of a field is known. If it is, its number and what it is.
-#[derive(Drop)]
+#[derive(Clone, Copy)]
 struct Seen {
     known: bool,
     number: NameId,

@@ -1,4 +1,6 @@
 // Parts of the pool: the bytes at a place, and those that an answer stands for.
+#![tactic(auto)]
+
 ghost use Rattle.std.specs.Prelude.{◌≡◌, min};
 ghost use Rattle.rules.specs.Table.{part};
 ghost use Rattle.rules.specs.Lookups.{bound_part, located_part};

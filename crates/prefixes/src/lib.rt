@@ -1,5 +1,7 @@
 // What the lookups that see elements' own names find along a path, from its first element outward: here
 // the prefix of a URI. Names are asked for by their numbers.
+#![tactic(auto)]
+
 ghost use Rattle.std.specs.Prelude.{◌≡◌, ◌&&◌, not, List, ℕ, ◌<◌};
 ghost use Rattle.rules.specs.Lists.{first_that, is_empty, same_bytes};
 ghost use Rattle.rules.specs.Table.{TYPE, DECLARATION, xml_uri, nodes, node_at, word, row_count};

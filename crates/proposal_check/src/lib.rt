@@ -1,5 +1,7 @@
 // The check of a proposal, a table and its pool, for an original: refusals 40 to 44. The proposal's pool is the other one.
 // Nothing is written.
+#![tactic(auto)]
+
 ghost use Rattle.std.specs.Prelude.{◌≡◌, List, [], ◌∷◌, ℕ, ◌*◌, ◌≤◌, ◌<◌, length};
 ghost use Rattle.std.proofs.Math.Option.{none};
 ghost use Rattle.rules.specs.Table.{MOST_ROWS, row_count, nodes};

@@ -1,4 +1,6 @@
 // The name of one row of a proposal: whether it asks for what is in scope, and whether it is settled where the arrays stand.
+#![tactic(auto)]
+
 ghost use Rattle.std.specs.Prelude.{◌≡◌, ◌+◌, ◌*◌, ◌≤◌, ◌<◌, length};
 ghost use Rattle.rules.specs.Table.{row_count};
 ghost use Rattle.notes.specs.Notes.{NOTES};

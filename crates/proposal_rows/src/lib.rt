@@ -1,4 +1,6 @@
 // Refusals 42 and 43: the rows of an original and of its proposal, both of which pass the check.
+#![tactic(auto)]
+
 ghost use Rattle.std.specs.Prelude.{◌≡◌, List, [], ◌∷◌, ℕ, ◌≤◌};
 ghost use Rattle.std.proofs.Math.Option.{none, some};
 ghost use Rattle.rules.specs.Table.{MOST_ROWS, row_count, nodes};

@@ -1,4 +1,6 @@
 // The answer to each question of a lookup that has begun: what is found along the elements, from the start element outward.
+#![tactic(auto)]
+
 ghost use Rattle.std.specs.Prelude.{◌≡◌, List, ℕ};
 ghost use Rattle.rules.specs.Table.{nodes};
 ghost use Rattle.rules.specs.declared.NameId.{NameId};

@@ -1,4 +1,6 @@
 // RULES 2: the number of each refusal, with the row and the word that it names, as a struct that C reads too.
+#![tactic(auto)]
+
 ghost use Rattle.std.specs.Prelude.{◌≡◌};
 ghost use Rattle.refusal_numbers.specs.Given.{refusal_given};
 
@@ -7,7 +9,7 @@ use rules::{Refusal, Row};
 // The refusal's number, the row at fault, and the word, 2, 4, 6 or 8, of the offset of the field at fault. The row is 0 for a
 // refusal that names none, the word for one that names no field; all three are 0 where nothing is refused.
 #[repr(C)]
-#[derive(Drop)]
+#[derive(Clone, Copy)]
 pub struct Number {
     pub number: u32,
     pub row: Row,

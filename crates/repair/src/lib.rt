@@ -1,6 +1,8 @@
 // The steps of normalization for one element and one attribute, in working buffers: a table of which
 // the first rows count, a pool of which the first bytes do, the notes of the rows, and the arrays of the
 // path of scopes, which stands at the element. What is in scope is asked by the numbers of names.
+#![tactic(auto)]
+
 ghost use Rattle.std.specs.Prelude.{◌≡◌, false, List, ℕ, ◌+◌, ◌≤◌, ◌<◌, max, length};
 ghost use Rattle.rules.specs.Normalization.{repair_attribute};
 ghost use Rattle.free_prefixes.specs.Free.{is_free};
@@ -10,7 +12,7 @@ use rules::Row;
 
 // How many rows of the table and bytes of the pool count, how many names have numbers, the NS number that
 // the search goes on from, and how many rows are allowed.
-#[derive(Drop)]
+#[derive(Clone, Copy)]
 pub struct Sizes {
     pub rows: usize,
     pub bytes: usize,

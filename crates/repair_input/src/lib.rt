@@ -1,4 +1,6 @@
 // The input of a repair: the refusals that it draws whatever its result, or the numbers of its names.
+#![tactic(auto)]
+
 ghost use Rattle.std.specs.Prelude.{◌≡◌, List, ℕ, ◌≤◌};
 ghost use Rattle.std.proofs.Math.Option.{some, none};
 ghost use Rattle.rules.specs.Table.{MOST_ROWS, row_count, nodes};

@@ -1,1 +1,2 @@
 // What repairing a subtree leaves as it was.
+#![tactic(auto)]

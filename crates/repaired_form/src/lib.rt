@@ -1,4 +1,6 @@
 // The repaired form of an accepted table and its pool, for the subtree of an element, made in working buffers.
+#![tactic(auto)]
+
 ghost use Rattle.std.specs.Prelude.{◌≡◌, Bool, true, ℕ, ◌≤◌, ◌<◌, length};
 ghost use Rattle.rules.specs.Table.{MOST_ROWS, ATTRIBUTE, row_count};
 ghost use Rattle.notes.specs.Notes.{NOTES, LATEST, note_at, HasNotes};

@@ -1,5 +1,7 @@
 // Repair of the subtree of an element in place, in the first rows of a table and the first bytes of a working pool, by the limits
 // of a table. Success answers the rows and bytes of the result, which then stand there; what stands behind them is not told.
+#![tactic(auto)]
+
 ghost use Rattle.std.specs.Prelude.{◌≡◌, ◌*◌, ◌≤◌, take};
 ghost use Rattle.std.proofs.Math.Option.{none};
 ghost use Rattle.rules.specs.Table.{WIDTH};

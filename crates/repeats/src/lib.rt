@@ -1,6 +1,8 @@
 // Where the pool repeats itself. Of one stretch of it the index knows the step: places there that are a multiple of it apart have the
 // same bytes, so that the first of them stands for all, and equal values at many places are not compared over and over. Which
 // stretch it is, nothing but time depends on.
+#![tactic(auto)]
+
 ghost use Rattle.std.specs.Prelude.{◌≡◌, true, ◌+◌, ◌-◌, ◌≤◌, ◌<◌, length};
 ghost use Rattle.rules.specs.Table.{MOST_BYTES};
 ghost use Rattle.packed_index.specs.Index.{ENTRIES, Repeats};
@@ -13,7 +15,7 @@ use rules::{Offset, Place};
 pub const RECENT: usize = 32;
 
 // A part of the pool, and the step at which it may repeat itself; 0 where none is known.
-#[derive(Drop)]
+#[derive(Clone, Copy)]
 struct Reach {
     start: usize,
     end: usize,

@@ -1,4 +1,6 @@
 // The text of totals: one a line, refusals ascending, and no line for 0.
+#![tactic(auto)]
+
 ghost use Rattle.std.specs.Prelude.{◌≡◌, ◌≤◌, length, take};
 ghost use Rattle.buffers.specs.Writes.{Put};
 ghost use Rattle.report.specs.Text.{refusal_lines, totals_text};

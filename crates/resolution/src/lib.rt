@@ -1,6 +1,8 @@
 // Refusal 44: the names of a proposal that do not mean their URIs in scope. The stacks of what is in scope go through the
 // rows in row order. They only move between rows that declare something, and not to a name whose prefix was found to stand for
 // its URI there before: that is remembered in slots, one lent array.
+#![tactic(auto)]
+
 ghost use Rattle.std.specs.Prelude.{◌≡◌, List, ℕ, ◌+◌, ◌≤◌, ◌<◌, length};
 ghost use Rattle.rules.specs.Table.{row_count, nodes};
 ghost use Rattle.rules.specs.Refusals.{verdict};
@@ -14,7 +16,7 @@ ghost use Rattle.resolution.specs.Known.{Known};
 use rules::{Checked, Position, Refusal, Row};
 
 // What one row gave: where the arrays stand then, and whether its name is not resolved.
-#[derive(Drop)]
+#[derive(Clone, Copy)]
 struct Resolved {
     position: Position,
     unresolved: bool,

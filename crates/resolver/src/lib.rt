@@ -1,5 +1,7 @@
 // One lookup for every question, at a row of a node table. It begins alike, whatever it asks: the whole check, the row, the
 // number of the name, the elements outward; and then asks along these. It writes nothing.
+#![tactic(auto)]
+
 ghost use Rattle.std.specs.Prelude.{◌≡◌, ◌≤◌};
 ghost use Rattle.rules.specs.Table.{row_count};
 ghost use Rattle.rules.specs.Lookups.{lookup_at};

@@ -1,4 +1,6 @@
 // The result of a normalization, as it stands in the buffers that it was made in, written as a session bundle.
+#![tactic(auto)]
+
 ghost use Rattle.std.specs.Prelude.{◌≡◌, List, ℕ, length};
 ghost use Rattle.normal_form.specs.Result.{Made};
 ghost use Rattle.bundles.specs.Operations.{normalized_into};

@@ -1,4 +1,6 @@
 // The figures of a bundle, once its normalization was made in a table: what it changed is counted.
+#![tactic(auto)]
+
 ghost use Rattle.std.specs.Prelude.{◌≡◌};
 ghost use Rattle.figures.specs.Figures.{figures_of};
 ghost use Rattle.result_figures.specs.Results.{Results};

@@ -1,6 +1,8 @@
 // One pass over the rows of a table, in their order: refusals 2 to 7 and 12 to 14. Each name gets a number on the way, equal
 // exactly where the bytes are equal. A fault of a row ends it. So does a conflict, unless rows are dropped for theirs: then it is
 // noted as the row's fate, and only kept rows are entered, with which rows behind are compared.
+#![tactic(auto)]
+
 ghost use Rattle.std.specs.Prelude.{◌≡◌, Bool, true, false, cond, ◌&&◌, not, List, ℕ, ◌+◌, ◌≤◌, ◌<◌, eqb, length, get_or};
 ghost use Rattle.rules.specs.Lists.{all_of};
 ghost use Rattle.rules.specs.Table.{row_count, nodes};

@@ -1,4 +1,6 @@
 // The name of one row: whether it means its URI where the scope stands, and in whose scope it is asked.
+#![tactic(auto)]
+
 ghost use Rattle.std.specs.Prelude.{◌≡◌, ◌≤◌, ◌<◌, length};
 ghost use Rattle.rules.specs.Table.{MOST_ROWS, row_count};
 ghost use Rattle.bindings.specs.Asking.{Asked};

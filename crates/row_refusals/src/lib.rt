@@ -1,4 +1,6 @@
 // What a row of a table that the check accepts is refused for where it is to be written: 9, 20, 21, 23 and 24.
+#![tactic(auto)]
+
 ghost use Rattle.std.specs.Prelude.{◌≡◌};
 ghost use Rattle.rules.specs.Table.{nodes};
 ghost use Rattle.rules.specs.Refusals.{verdict};

@@ -1,5 +1,7 @@
 // Reading the rows of a lent table, and arrays of row numbers. What is read of a row is read here. A
 // field is named by the word that its offset stands in, as `rules::URI`.
+#![tactic(auto)]
+
 ghost use Rattle.std.specs.Prelude.{◌≡◌, ◌<◌, length, get_or, ltb};
 ghost use Rattle.rules.specs.Table.{WIDTH, TYPE, PARENT, MAKER, word, field_at, row_count, is_element, is_level1};
 ghost use Rattle.rows.specs.Reading.{HasField, place_at};

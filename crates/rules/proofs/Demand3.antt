@@ -164,7 +164,8 @@ up-closed (suc steps) ns r x h e i =
     (λ z.
     let same = eqb-true x r z in
     let less : (node ns r).parent < r = subst (λ (y : ℕ). (node ns y).parent < y) same i in
-    rw (q, lt-ltb (node ns r).parent r less, same) (up_first steps ns (node ns r).parent (omega arith)))
+    rw (q, lt-ltb (node ns r).parent r less)
+    (subst (λ (y : ℕ). is_one_of (up_from steps ns (node ns r).parent) (node ns y).parent ≡ true) (sym same) (up_first steps ns (node ns r).parent (omega arith))))
     (λ z.
     by_cases (ltb (node ns r).parent r)
     (λ t. rw (q, t) (up-closed steps ns (node ns r).parent x (omega (arith, ltb-true (node ns r).parent r t)) (rw (z, t) at e) i))

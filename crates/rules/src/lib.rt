@@ -1,5 +1,6 @@
 // The types that every crate shares: where things stand in a node table and its pool, and what an
 // operation answers. The definitions in specs/Answers.antt give each case's number and values.
+#![tactic(auto)]
 
 // The words of a row, the most rows of a table and the most bytes of a pool.
 pub const WIDTH: usize = 11;
@@ -59,32 +60,32 @@ pub const LEVEL1_ATTRIBUTE: u32 = 258;
 
 // The number of a row of the node table, counted from 0.
 #[repr(C)]
-#[derive(Drop)]
+#[derive(Clone, Copy)]
 pub struct Row(pub u32);
 
 // A place in the pool, in bytes from its start.
 #[repr(C)]
-#[derive(Drop)]
+#[derive(Clone, Copy)]
 pub struct Offset(pub u32);
 
 // A row counted from 1, as links between rows hold it; 0 is no row.
-#[derive(Drop)]
+#[derive(Clone, Copy)]
 pub struct Position(pub u16);
 
 // The number of a name: two are equal exactly where the bytes are. 0 is the empty name.
-#[derive(Drop)]
+#[derive(Clone, Copy)]
 pub struct NameId(pub u16);
 
 // A part of the pool.
 #[repr(C)]
-#[derive(Drop)]
+#[derive(Clone, Copy)]
 pub struct Place {
     pub offset: Offset,
     pub length: u32,
 }
 
 // Why an operation refuses its input; the row is the one at fault, and the word that of the faulty field's offset.
-#[derive(Drop)]
+#[derive(Clone, Copy)]
 pub enum Refusal {
     // 1: the table is not whole rows, or the table or the pool is too long.
     Size,
@@ -145,14 +146,14 @@ pub enum Refusal {
 }
 
 // What the check answers.
-#[derive(Drop)]
+#[derive(Clone, Copy)]
 pub enum Checked {
     Accepted,
     Refused(Refusal),
 }
 
 // What is asked at a row: a URI of a prefix or a prefix of a URI, by names and declarations or by declarations alone.
-#[derive(Drop)]
+#[derive(Clone, Copy)]
 pub enum Question {
     UriOfPrefix,
     PrefixOfUri,
@@ -161,7 +162,7 @@ pub enum Question {
 }
 
 // What the lookup of a prefix and that of the default URI find: a part of the pool, or nothing.
-#[derive(Drop)]
+#[derive(Clone, Copy)]
 pub enum Located {
     At(Place),
     Nothing,
@@ -169,7 +170,7 @@ pub enum Located {
 }
 
 // What the lookup of a URI and the in-scope lookups find: a part of the pool, a built-in, or nothing.
-#[derive(Drop)]
+#[derive(Clone, Copy)]
 pub enum Bound {
     At(Place),
     Xml,
@@ -179,28 +180,28 @@ pub enum Bound {
 }
 
 // What an operation answers that fills a lent table and a lent pool: how many rows and bytes of them it takes.
-#[derive(Drop)]
+#[derive(Clone, Copy)]
 pub enum Filled {
     Done { rows: usize, bytes: usize },
     Refused(Refusal),
 }
 
 // What writing a bundle or XML text answers: how many bytes of the output it takes.
-#[derive(Drop)]
+#[derive(Clone, Copy)]
 pub enum Written {
     Done { bytes: usize },
     Refused(Refusal),
 }
 
 // What salvage answers: how many rows of the output table it takes, and how many dropped rows the list holds.
-#[derive(Drop)]
+#[derive(Clone, Copy)]
 pub enum Salvaged {
     Done { rows: usize, dropped: usize },
     Refused(Refusal),
 }
 
 // What the salvage of a bundle answers: how many bytes of the output it takes, and how many dropped rows the list holds.
-#[derive(Drop)]
+#[derive(Clone, Copy)]
 pub enum Rescued {
     Done { bytes: usize, dropped: usize },
     Refused(Refusal),

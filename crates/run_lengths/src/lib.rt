@@ -1,4 +1,6 @@
 // The lengths of a value's runs, of which no byte is escaped: they are measured once for a whole pool.
+#![tactic(auto)]
+
 ghost use Rattle.std.specs.Prelude.{◌≡◌, cond, ◌+◌, ◌*◌, ◌≤◌, ◌<◌, length, get_or};
 ghost use mir.Val.{bool_byte};
 ghost use Rattle.rules.specs.Table.{MOST_BYTES};

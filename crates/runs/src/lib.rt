@@ -1,4 +1,6 @@
 // How far a value in XML text stands for itself: its runs of bytes that are not escaped, in a text and in quotes.
+#![tactic(auto)]
+
 ghost use Rattle.std.specs.Prelude.{◌≡◌, ◌≤◌, length, drop};
 ghost use Rattle.rules.specs.Lists.{all_of};
 ghost use Rattle.escapes.specs.Escapes.{is_escaped};

@@ -1,4 +1,6 @@
 // RULES 2: the number and values of what salvage answers, as structs that C reads too.
+#![tactic(auto)]
+
 ghost use Rattle.std.specs.Prelude.{◌≡◌};
 ghost use Rattle.salvage_answers.specs.Given.{rescued_given};
 
@@ -7,7 +9,7 @@ use rules::{Rescued, Row};
 
 // The bytes of an output that are used, and the rows that were dropped; 0 for a refusal.
 #[repr(C)]
-#[derive(Drop)]
+#[derive(Clone, Copy)]
 pub struct Saved {
     pub number: Number,
     pub bytes: usize,

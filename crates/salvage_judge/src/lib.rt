@@ -1,4 +1,6 @@
 // What becomes of a table that is salvaged: refusals 1 to 5 and 12 to 14, or the fate of each of its rows.
+#![tactic(auto)]
+
 ghost use Rattle.std.specs.Prelude.{◌≤◌, length};
 ghost use Rattle.rules.specs.Table.{row_count, nodes};
 ghost use Rattle.dictionary.specs.Dictionary.{last_of, Dictionary};

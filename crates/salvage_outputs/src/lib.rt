@@ -1,4 +1,6 @@
 // The outputs of salvage, once the fate of each row is known: 10, or the kept rows and the list of the others.
+#![tactic(auto)]
+
 ghost use Rattle.std.specs.Prelude.{◌≡◌, ◌||◌, List, ℕ, ◌/◌, ltb, length, replicate};
 ghost use Rattle.rules.specs.Table.{WIDTH, row_count};
 ghost use Rattle.rules.specs.Outputs.{padded};

@@ -1,4 +1,6 @@
 // What salvage kept, as it stands in the table that it was written to, as a session bundle.
+#![tactic(auto)]
+
 ghost use Rattle.std.specs.Prelude.{◌≡◌, List, ℕ, length};
 ghost use Rattle.salvage.specs.Salvage.{rescue_refused, rescued};
 ghost use Rattle.salvaged_bundle.specs.Kept.{Kept, SomeKept};

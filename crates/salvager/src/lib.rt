@@ -1,4 +1,6 @@
 // Salvage of a table: its rows without those that draw 6, and those that draw 7 against a kept row, and a list of these.
+#![tactic(auto)]
+
 ghost use Rattle.std.specs.Prelude.{◌≡◌, ◌≤◌, length};
 ghost use Rattle.rules.specs.Table.{row_count};
 ghost use Rattle.table_size.specs.Small.{FEW_ROWS};

@@ -1,4 +1,6 @@
 // A scope is made ready before a table is walked through: the number of xml stands on its path, and the declarations are linked.
+#![tactic(auto)]
+
 ghost use Rattle.std.specs.Prelude.{List, [], ◌∷◌, ℕ, ◌≤◌, length};
 ghost use Rattle.stacks.specs.Stacks.{PATH};
 ghost use Rattle.beginning.specs.Ground.{Unlinked, Ground};

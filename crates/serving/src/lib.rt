@@ -1,4 +1,6 @@
 // Which positions of a scope serve a number of a name as a URI: the nearest of them, and counting them.
+#![tactic(auto)]
+
 ghost use Rattle.std.specs.Prelude.{◌≡◌, ◌&&◌, not, List, ℕ, ◌+◌, ◌*◌, ◌≤◌, length, eqb};
 ghost use Rattle.stacks.specs.Scopes.{serving, first};
 ghost use Rattle.stacks.specs.Stacks.{TOPS, PREFIXES, top_at, prefix_at, value_at, Inside, NoneOrInside, On, Held, counted, replaced};

@@ -1,4 +1,6 @@
 // Which session bundles are small: their operations take arrays that are small too.
+#![tactic(auto)]
+
 ghost use Rattle.std.specs.Prelude.{◌≡◌, false, ◌≤◌, length};
 ghost use Rattle.table_size.specs.Small.{FEW_ROWS, FEW_BYTES};
 ghost use Rattle.bundles.specs.Bundles.{HEADER, bundle_pool_length};

@@ -1,4 +1,6 @@
 // Putting a position on the stacks of a scope.
+#![tactic(auto)]
+
 ghost use Rattle.std.specs.Prelude.{◌≡◌, List, ◌∷◌, ℕ, ◌+◌, ◌*◌, ◌<◌, length, set};
 ghost use Rattle.stacks.specs.Scopes.{Each};
 ghost use Rattle.stacks.specs.Stacks.{TOPS, PATH, PREFIXES, top_at, prefix_at, Inside, NoneOrInside, On, Untouched};

@@ -1,6 +1,8 @@
 // The arrays that hold a scope, and their words: for each number of a name, on top, the nearest position
 // whose prefix has it, the nearest one whose value has it, and how many positions serve it; and for each
 // position what lies under it. A position is a row counted from 1; 0 is no row.
+#![tactic(auto)]
+
 ghost use Rattle.std.specs.Prelude.{◌≡◌, ◌+◌, ◌*◌, ◌≤◌, ◌<◌, length, set};
 ghost use Rattle.stacks.specs.Stacks.{TOPS, PATH, PREFIXES, COUNTS, NUMBERED, top_at, under_at};
 

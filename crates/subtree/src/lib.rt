@@ -1,4 +1,6 @@
 // The element that is written, and the rows of its subtree.
+#![tactic(auto)]
+
 ghost use Rattle.std.specs.Prelude.{◌≡◌, List, ℕ, ◌+◌, ◌≤◌, ◌<◌, length};
 ghost use Rattle.rules.specs.Table.{MOST_ROWS, row_count, nodes};
 ghost use Rattle.rows.specs.Reading.{row_or};

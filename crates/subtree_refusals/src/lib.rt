@@ -1,5 +1,7 @@
 // What the subtree of an element is refused for: 20, 21, 23 and 24. Where nothing of the whole table is refused, which is the
 // usual case, one pass over the rows tells.
+#![tactic(auto)]
+
 ghost use Rattle.std.specs.Prelude.{◌≡◌, true, ℕ, ◌<◌};
 ghost use Rattle.std.proofs.Math.Option.{some};
 ghost use Rattle.rules.specs.Table.{NONE, nodes, node, row_count, is_element};

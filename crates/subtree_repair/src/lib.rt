@@ -1,1 +1,2 @@
 // Repairing the subtree of one element, instead of normalizing the whole.
+#![tactic(auto)]

@@ -1,5 +1,7 @@
 // The rows of the subtree of an element, or all rows, listed in row order. A parent stands before its children, so the list begins at the
 // element, and a row is told by the flag of its parent.
+#![tactic(auto)]
+
 ghost use Rattle.std.specs.Prelude.{◌≡◌, List, ℕ, ◌+◌, ◌≤◌, ◌<◌, length, get_or, eqb};
 ghost use Rattle.rules.specs.Table.{MOST_ROWS, row_count, nodes};
 ghost use Rattle.rules.specs.Demands.{in_subtree};

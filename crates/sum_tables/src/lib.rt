@@ -1,5 +1,7 @@
 // A table of polynomials over a pool, a row for each block of 64 bytes: with it the polynomials of a part of any
 // length cost the bytes of a block or two.
+#![tactic(auto)]
+
 ghost use Rattle.std.specs.Prelude.{◌≡◌, ◌+◌, ◌≤◌, ◌<◌, length, take};
 ghost use Rattle.keyed.specs.Keyed.{PRIME, MOST, between, sum_from};
 ghost use Rattle.sum_tables.specs.SumTables.{WORDS, number_at, put, put_row, Filled};

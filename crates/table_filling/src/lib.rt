@@ -1,4 +1,6 @@
 // The tables of a pool are made.
+#![tactic(auto)]
+
 ghost use Rattle.std.specs.Prelude.{◌≡◌, ◌≤◌, true, false, length, get_or, drop};
 ghost use Rattle.marks.specs.Marks.{MOST, Marked};
 ghost use Rattle.ends.specs.Ends.{Ended};

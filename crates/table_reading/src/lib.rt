@@ -1,4 +1,6 @@
 // A table and its pool copied to lent outputs, once the check has judged them.
+#![tactic(auto)]
+
 ghost use Rattle.std.specs.Prelude.{◌≡◌, length};
 ghost use Rattle.rules.specs.Refusals.{verdict, checked};
 ghost use Rattle.bundles.specs.Operations.{table_read_refusal, table_read};

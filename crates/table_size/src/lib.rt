@@ -1,4 +1,6 @@
 // The size of a table and of its pool: refusal 1, and which tables are small, so that their operations take small arrays.
+#![tactic(auto)]
+
 ghost use Rattle.std.specs.Prelude.{◌≡◌, false, ◌≤◌};
 ghost use Rattle.rules.specs.Table.{row_count};
 ghost use Rattle.rules.specs.Refusals.{bad_size};

@@ -1,4 +1,6 @@
 // A table and its pool written as a session bundle, if the check accepts them.
+#![tactic(auto)]
+
 ghost use Rattle.std.specs.Prelude.{◌≡◌, length};
 ghost use Rattle.bundles.specs.Operations.{table_written};
 

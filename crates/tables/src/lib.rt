@@ -1,6 +1,8 @@
 // What is known of a whole pool: the bases of the keyed hash and their polynomials, its ends of names and its marks. With
 // them a name of any length has its hash and its kind for the bytes of a few blocks. Until it is made, names have the
 // plain hash.
+#![tactic(auto)]
+
 ghost use Rattle.std.specs.Prelude.{◌≡◌, ◌≤◌, ◌<◌, length, get_or};
 ghost use Rattle.marks.specs.Marks.{MOST, between};
 ghost use Rattle.kinds.specs.Kinds.{kind_of};

@@ -1,4 +1,6 @@
 // Start tags and end tags. Each piece is put behind what was put before it.
+#![tactic(auto)]
+
 ghost use Rattle.std.specs.Prelude.{◌<◌};
 ghost use Rattle.rules.specs.Lists.{gathered};
 ghost use Rattle.rules.specs.Table.{row_count, nodes, node_at};

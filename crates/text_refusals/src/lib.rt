@@ -1,4 +1,6 @@
 // What writing from a row is refused for, whatever the output, behind the check and 8: 9, 20, 21, 23 and 24.
+#![tactic(auto)]
+
 ghost use Rattle.std.specs.Prelude.{[], ◌∷◌};
 ghost use Rattle.beginning.specs.Ground.{Ground};
 ghost use Rattle.scope_preparation.specs.Arrays.{Cleared};
@@ -7,7 +9,7 @@ ghost use Rattle.text_refusals.specs.Judging.{WrittenFrom};
 use rules::{Checked, NameId, Refusal, Row};
 
 // The element that is written, or a refusal.
-#[derive(Drop)]
+#[derive(Clone, Copy)]
 pub enum Judged {
     Element(Row),
     Refused(Refusal),

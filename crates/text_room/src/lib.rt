@@ -1,4 +1,6 @@
 // Refusal 22: a text that was put into an output fits, or nothing of it is left.
+#![tactic(auto)]
+
 ghost use Rattle.std.specs.Prelude.{◌≡◌};
 ghost use Rattle.text_room.specs.Room.{completed};
 

@@ -1,4 +1,6 @@
 // The totals of many bundles: those of none, and with the figures of one more.
+#![tactic(auto)]
+
 ghost use Rattle.std.specs.Prelude.{◌≡◌, ℕ, ◌+◌, ◌^◌, ◌<◌, ◌≤◌, List, [], ◌∷◌, ◌++◌, length, slice_index};
 ghost use Rattle.figures.specs.Figures.{figures_of, LAST_NUMBER};
 ghost use Rattle.figures.specs.Stream.{MOST_BUNDLES};
@@ -10,7 +12,7 @@ use figures::Figures;
 pub const NUMBERS: usize = figures::LAST_NUMBER + 1;
 
 // How many bundles have each number, and the sums of their other figures.
-#[derive(Drop)]
+#[derive(Clone, Copy)]
 pub struct Totals {
     pub numbers: [u32; NUMBERS],
     pub rows: u32,

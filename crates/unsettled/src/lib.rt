@@ -1,5 +1,7 @@
 // Of the rows that are flagged, the lowest whose name does not mean its URI in scope: what refusals 23 and 44 ask. The
 // stacks of what is in scope go through the rows in row order.
+#![tactic(auto)]
+
 ghost use Rattle.std.specs.Prelude.{◌≡◌, true, List, ℕ, ◌≤◌, ◌<◌, length};
 ghost use Rattle.rules.specs.Table.{row_count, nodes};
 ghost use Rattle.stacks.specs.Stacks.{Untouched};

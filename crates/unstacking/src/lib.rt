@@ -1,4 +1,6 @@
 // Taking the newest position off the stacks of a scope.
+#![tactic(auto)]
+
 ghost use Rattle.std.specs.Prelude.{◌≡◌, List, ◌∷◌, ℕ, ◌+◌, ◌*◌, ◌<◌, length, set};
 ghost use Rattle.stacks.specs.Stacks.{TOPS, PATH, PREFIXES, BELOW, under_at, Inside, NoneOrInside, On, Untouched};
 

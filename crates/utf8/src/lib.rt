@@ -1,4 +1,6 @@
 // Well-formed UTF-8, by the table of byte sequences of RFC 3629, section 4.
+#![tactic(auto)]
+
 ghost use Rattle.std.specs.Prelude.{◌≡◌, ◌<◌, length, get_or};
 ghost use Rattle.rules.specs.Lists.{all_of};
 ghost use Rattle.rules.specs.Utf8.{well_formed, is_ascii, is_in};

@@ -1,11 +1,13 @@
 // The table of byte sequences of RFC 3629, section 4: what the first byte of a sequence tells.
+#![tactic(auto)]
+
 ghost use Rattle.std.specs.Prelude.{◌≡◌, ◌≤◌};
 ghost use Rattle.rules.specs.Utf8.{following};
 ghost use Rattle.utf8_table.specs.Lines.{ranges_of};
 
 // The length of a sequence and the bounds of its second byte, as its first byte tells them. Length 0:
 // no sequence starts with that byte.
-#[derive(Drop)]
+#[derive(Clone, Copy)]
 pub struct Line {
     pub length: usize,
     pub low: u8,

@@ -1,5 +1,7 @@
 // The bytes of values: whether the value of a row is well-formed. In a pool that is all of ASCII no byte is read for it.
 // In another one values are read, by marks where they overlap so much that their bytes would be read over and over.
+#![tactic(auto)]
+
 ghost use Rattle.std.specs.Prelude.{◌≡◌, ◌+◌, ◌≤◌, ◌<◌, length};
 ghost use Rattle.rules.specs.Table.{MOST_ROWS, VALUE, row_count, field_at};
 ghost use Rattle.rules.specs.Utf8.{well_formed};

@@ -1,4 +1,6 @@
 // Values in XML text: writing a value with its escapes.
+#![tactic(auto)]
+
 ghost use Rattle.std.specs.Prelude.{◌≡◌};
 ghost use Rattle.buffers.specs.Writes.{Put};
 ghost use Rattle.escapes.specs.Escapes.{escaped};

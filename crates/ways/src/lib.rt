@@ -1,5 +1,7 @@
 // The ways between rows, with the arrays that hold what is in scope: leaving rows outward, and entering
 // rows inward. A position is a row counted from 1; 0 is no row.
+#![tactic(auto)]
+
 ghost use Rattle.std.specs.Prelude.{ℕ, ◌+◌, ◌≤◌, ◌<◌, length, get_or};
 ghost use Rattle.rules.specs.Table.{row_count};
 ghost use Rattle.stacks.specs.Stacks.{Untouched};

@@ -1,4 +1,6 @@
 // The tree of a table as XML text.
+#![tactic(auto)]
+
 ghost use Rattle.std.specs.Prelude.{◌≡◌, ◌≤◌, length};
 ghost use Rattle.rules.specs.Table.{row_count};
 ghost use Rattle.table_size.specs.Small.{FEW_ROWS};

@@ -1,0 +1,5 @@
+-- The measure is the number, which falls to the number of the digits before the last.
+use Rattle.additions.proofs.+append_numbered.Given as goal
+
+abbrev pub decreases-append_numbered : goal.decreases-append_numbered
+decreases-append_numbered l = l.k

@@ -1,0 +1,16 @@
+-- `declarations::own` meets its contract. The invariant: what the walk finds from here on, or else what it has found, is what there
+-- is to find.
+-- In the loop the row is one of the table's.
+use Prim.Native.Nat.{ℕ}
+use mathlib.Core.List.{List}
+use Rattle.rules.specs.Lookups.{declares}
+use Rattle.scopes.proofs.Own.{Reached}
+use Rattle.declarations.specs.Meant.{Meant}
+use Rattle.declarations.proofs.Walking.{Walking}
+use Rattle.declarations.proofs.own.Given as goal
+
+abbrev pub invariant-loop-at : goal.invariant-loop-at
+invariant-loop-at l =     Reached l.table l.e l.at × ((pool name : List ℕ) → Meant l.table pool l.notes l.wanted name → Walking l.table pool l.e (declares name) l.at l.first)
+
+abbrev pub decreases-loop-at : goal.decreases-loop-at
+decreases-loop-at l = l.at

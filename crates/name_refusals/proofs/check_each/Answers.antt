@@ -1,0 +1,23 @@
+-- `check_each` meets its contract.
+-- The row, and the tests that were passed.
+use mathlib.Core.Path.{◌≡◌, sym, ◌∙◌}
+use Rattle.rules.specs.Table.{node_at}
+use Rattle.rules.specs.Refusals.{bad_names, bad_namespace}
+use Rattle.name_refusals.proofs.Drawn.{refused-encoding, passed-encoding, refused-names, refused-namespace, refused_none}
+use Rattle.name_refusals.proofs.check_each.Goals as goal
+
+pub returns-in_default : goal.returns-in_default
+returns-in_default c =
+    refused-encoding c.args.row.0 ((node_at c.args.table.now c.args.pool.now c.args.row.0)) c.check-drawn.ensures _ c.in_default.is
+
+pub returns-then-bad : goal.returns-then-bad
+returns-then-bad c =
+    refused-names c.args.row.0 ((node_at c.args.table.now c.args.pool.now c.args.row.0)) c.check-drawn.ensures c.in-Accepted.is (sym ((let it : c.bad.result ≡ bad_names ((node_at c.args.table.now c.args.pool.now c.args.row.0)) = c.bad.ensures ((node_at c.args.table.now c.args.pool.now c.args.row.0)) c.args.row.0 c.kind-row_type.ensures c.requires.kinds_value (passed-encoding c.args.row.0 ((node_at c.args.table.now c.args.pool.now c.args.row.0)) c.check-drawn.ensures c.in-Accepted.is) in it)) ∙ c.if-bad.true)
+
+pub returns-then-bad-2 : goal.returns-then-bad-2
+returns-then-bad-2 c =
+    refused-namespace c.args.row.0 ((node_at c.args.table.now c.args.pool.now c.args.row.0)) c.check-drawn.ensures c.in-Accepted.is (sym ((let it : c.bad.result ≡ bad_names ((node_at c.args.table.now c.args.pool.now c.args.row.0)) = c.bad.ensures ((node_at c.args.table.now c.args.pool.now c.args.row.0)) c.args.row.0 c.kind-row_type.ensures c.requires.kinds_value (passed-encoding c.args.row.0 ((node_at c.args.table.now c.args.pool.now c.args.row.0)) c.check-drawn.ensures c.in-Accepted.is) in it)) ∙ c.if-bad.false) (sym ((let it : c.bad-2.result ≡ bad_namespace ((node_at c.args.table.now c.args.pool.now c.args.row.0)) = c.bad-2.ensures ((node_at c.args.table.now c.args.pool.now c.args.row.0)) c.kind-row_type.ensures c.requires.kinds_value in it)) ∙ c.if-bad-2.true)
+
+pub returns : goal.returns
+returns c =
+    refused_none c.args.row.0 ((node_at c.args.table.now c.args.pool.now c.args.row.0)) c.check-drawn.ensures c.in-Accepted.is (sym ((let it : c.bad.result ≡ bad_names ((node_at c.args.table.now c.args.pool.now c.args.row.0)) = c.bad.ensures ((node_at c.args.table.now c.args.pool.now c.args.row.0)) c.args.row.0 c.kind-row_type.ensures c.requires.kinds_value (passed-encoding c.args.row.0 ((node_at c.args.table.now c.args.pool.now c.args.row.0)) c.check-drawn.ensures c.in-Accepted.is) in it)) ∙ c.if-bad.false) (sym ((let it : c.bad-2.result ≡ bad_namespace ((node_at c.args.table.now c.args.pool.now c.args.row.0)) = c.bad-2.ensures ((node_at c.args.table.now c.args.pool.now c.args.row.0)) c.kind-row_type.ensures c.requires.kinds_value in it)) ∙ c.if-bad-2.false)

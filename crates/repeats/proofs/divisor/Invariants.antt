@@ -1,0 +1,8 @@
+-- `divisor` meets its contract: it ends.
+use Rattle.repeats.proofs.divisor.Given as goal
+
+abbrev pub invariant-loop-y : goal.invariant-loop-y
+invariant-loop-y l = Unit {0}
+
+abbrev pub decreases-loop-y : goal.decreases-loop-y
+decreases-loop-y l = l.y

@@ -1,0 +1,42 @@
+use native.Mathlib.Omega.{arith}
+use mathlib.Core.Path.{◌≡◌, refl, subst, ◌∙◌}
+use mathlib.Core.List.{[]}
+use Rattle.scopes.proofs.Moving.{Entering, enter-start, enter-inside, step_falls, enter_step, enter-end}
+use Rattle.scopes.proofs.enter.Goals as goal
+
+pub link_at-at-requires : goal.link_at-at-requires
+link_at-at-requires c =
+    let room = c.requires.ready.room.noted in
+    (omega arith, omega arith, omega arith)
+
+pub loop-at-init : goal.loop-at-init
+loop-at-init c =
+    (enter-start c.args.table.now c.args.notes.now c.args.position.0 c.requires.position_nonzero c.args.tops.now c.args.path.now c.requires.ready c.link_at-at.result.0 c.link_at-at.ensures c.requires.standing, refl, refl, λ k. refl)
+
+pub push-requires : goal.push-requires
+push-requires c =
+    let all = enter-inside c.args.table.now c.args.notes.now c.args.position.0 c.requires.position_nonzero c.args.tops.now c.args.path.now c.requires.ready c.loop-at.tops c.loop-at.path c.loop-at.invariant.1 c.loop-at.invariant.2 c.loop-at.at c.loop-at-test.true c.loop-at.invariant.0 in record { inside = all.0; none_or_inside = all.1 }
+
+pub link_at-at-requires-in-loop-at : goal.link_at-at-requires-in-loop-at
+link_at-at-requires-in-loop-at c =
+    let room = c.requires.ready.room.noted in
+    let within = c.loop-at.invariant.0.reached.within in
+    (omega arith, omega arith, omega arith)
+
+pub loop-at-smaller : goal.loop-at-smaller
+loop-at-smaller c =
+    step_falls c.args.table.now c.args.notes.now c.args.position.0 c.requires.position_nonzero c.args.tops.now c.args.path.now c.requires.ready c.loop-at.tops c.loop-at.path c.loop-at.invariant.1 c.loop-at.invariant.2 c.loop-at.at c.loop-at-test.true c.link_at-at-in-loop-at.result.0 c.link_at-at-in-loop-at.ensures [] [] c.loop-at.invariant.0.reached
+
+pub loop-at-preserved : goal.loop-at-preserved
+loop-at-preserved c =
+    (enter_step c.args.table.now c.args.notes.now c.args.position.0 c.requires.position_nonzero c.args.tops.now c.args.path.now c.requires.ready c.loop-at.tops c.loop-at.path c.loop-at.invariant.1 c.loop-at.invariant.2 c.loop-at.at c.loop-at-test.true c.link_at-at-in-loop-at.result.0 c.link_at-at-in-loop-at.ensures c.push.new.tops c.push.new.path c.loop-at.invariant.0 c.push.ensures.by_index, c.push.auto.tops ∙ c.loop-at.invariant.1, c.push.auto.path ∙ c.loop-at.invariant.2, λ k. c.push.ensures.untouched k ∙ c.loop-at.invariant.3 k)
+
+pub shape_of-tops : goal.shape_of-tops
+shape_of-tops c = c.loop-at.invariant.1
+
+pub shape_of-path : goal.shape_of-path
+shape_of-path c = c.loop-at.invariant.2
+
+pub returns : goal.returns
+returns c =
+    let none : c.loop-at.at ≡ 0 = omega arith in record { standing_2 = enter-end c.args.table.now c.args.notes.now c.args.position.0 c.requires.position_nonzero (subst (Entering c.args.table.now c.args.notes.now c.args.position.0 c.loop-at.tops c.loop-at.path) none c.loop-at.invariant.0); untouched = c.loop-at.invariant.3 }
