@@ -36,7 +36,9 @@ all: $(LIBRARY)
 
 # What is proved already is not proved again, but for the crate of the C functions itself.
 $(built): crates.txt $(shell find crates -type f -path 'crates/*/src/*' -o -type f -path 'crates/*/specs/*' -o -type f -path 'crates/*/proofs/*')
-	rt staticlib noemathu
+	cd crates/noemathu_c && rt lib
+	mkdir -p $(@D)
+	cp crates/noemathu_c/out/libnoemathu_c.a $@
 
 install: install-library target/bin/noemathu
 	$(INSTALL) -d $(root)/bin $(root)/share/man/man1

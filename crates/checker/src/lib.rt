@@ -6,7 +6,7 @@ ghost use Rattle.std.specs.Prelude.{◌≡◌, ℕ, ◌≤◌, ◌<◌};
 ghost use Rattle.rules.specs.Table.{row_count};
 ghost use Rattle.rules.specs.Refusals.{verdict, checked};
 ghost use Rattle.rules.specs.declared.Checked.{Checked};
-ghost use Rattle.notes.specs.Notes.{NOTES, LATEST, note_at};
+ghost use Rattle.notes.specs.Notes.{LATEST, note_at, NOTES as ROW_NOTES};
 ghost use Rattle.dictionary.specs.Dictionary.{last_of, Dictionary};
 ghost use Rattle.value_bytes.specs.Judging.{Judging};
 ghost use Rattle.row_checks.specs.Pass.{rows_refusal};
@@ -47,7 +47,7 @@ pub fn check_numbered(
     requires { Lent table.now dictionary.old notes.old }
     ensures value { result ≡ checked table.now pool.now }
     ensures named { result ≡ Checked.Accepted → Named table.now pool.now dictionary.new notes.new }
-    ensures by_index { (q k : ℕ) → LATEST ≤ k → k < NOTES → note_at notes.new q k ≡ note_at notes.old q k }
+    ensures by_index { (q k : ℕ) → LATEST ≤ k → k < ROW_NOTES → note_at notes.new q k ≡ note_at notes.old q k }
 {
     if table_size::is_bad(table, pool) {
         return Checked::Refused(Refusal::Size);
@@ -72,7 +72,7 @@ fn check_sized(
     requires dictionary { Dictionary dictionary.old pool.now × (last_of dictionary.old ≤ 0) }
     ensures value { result ≡ verdict (rows_refusal table.now pool.now) }
     ensures named { result ≡ Checked.Accepted → Named table.now pool.now dictionary.new notes.new }
-    ensures by_index { (q k : ℕ) → LATEST ≤ k → k < NOTES → note_at notes.new q k ≡ note_at notes.old q k }
+    ensures by_index { (q k : ℕ) → LATEST ≤ k → k < ROW_NOTES → note_at notes.new q k ≡ note_at notes.old q k }
 {
     let first = row_checks::check_rows(table, pool, ascii, marks, dictionary, notes, true);
     if dictionary::is_hard(dictionary) {
@@ -94,7 +94,7 @@ fn check_hard(
     requires judging { Judging pool.now marks.now ascii }
     ensures value { result ≡ verdict (rows_refusal table.now pool.now) }
     ensures named { result ≡ Checked.Accepted → Named table.now pool.now dictionary.new notes.new }
-    ensures by_index { (q k : ℕ) → LATEST ≤ k → k < NOTES → note_at notes.new q k ≡ note_at notes.old q k }
+    ensures by_index { (q k : ℕ) → LATEST ≤ k → k < ROW_NOTES → note_at notes.new q k ≡ note_at notes.old q k }
 {
     dictionary::harden(dictionary, table, pool);
     row_checks::check_rows(table, pool, ascii, marks, dictionary, notes, false)

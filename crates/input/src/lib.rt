@@ -7,7 +7,7 @@ ghost use Rattle.rules.specs.Table.{row_count};
 ghost use Rattle.rules.specs.declared.Refusal.{Refusal};
 ghost use Rattle.dictionary.specs.Dictionary.{last_of, Dictionary};
 ghost use Rattle.checker.specs.Lent.{Lent as Numbering};
-ghost use Rattle.stacks.specs.Stacks.{PATH};
+ghost use Rattle.stacks.specs.Stacks.{PATH as PATH_WORDS};
 ghost use Rattle.input.specs.Input.{input_refusal};
 ghost use Rattle.input.specs.Lent.{Blank, Entered, Prepared};
 ghost use Rattle.input.specs.declared.Judged.{Judged};
@@ -58,7 +58,7 @@ pub fn judge(
 // many names have numbers then.
 fn enter_names(dictionary: &[u16], pool: &[u8], path: &mut [u16]) -> u16
     requires dictionary { (Dictionary dictionary.now pool.now) × (last_of dictionary.now < 65535) }
-    requires by_index { ((i : ℕ) → get_or path.old i 0 ≡ 0) × (PATH ≤ length path.old) }
+    requires by_index { ((i : ℕ) → get_or path.old i 0 ≡ 0) × (PATH_WORDS ≤ length path.old) }
     ensures { Entered dictionary.now pool.now path.new result }
 {
     ns_names::enter_all(dictionary, pool, path);

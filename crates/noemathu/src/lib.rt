@@ -1,5 +1,4 @@
-// The functions that a C host calls, declared in include/noemathu.h: each takes bytes and numbers, and hands over its whole
-// answer.
+// The functions that a C host calls, which `noemathu_c` exports: each takes bytes and numbers, and hands over its whole answer.
 #![tactic(auto)]
 
 ghost use Rattle.std.specs.Prelude.{◌≡◌, length};
@@ -19,56 +18,49 @@ use rules::Row;
 use salvage_answers::Saved;
 
 // The first refusal that a bundle draws, or that it is accepted.
-#[unsafe(no_mangle)]
-pub extern "C" fn noemathu_check(bundle: &[u8]) -> Number
+pub fn noemathu_check(bundle: &[u8]) -> Number
     ensures { result ≡ check_given (bundle_checked bundle.now) }
 {
     answers::check_number(bundle_check::check(bundle))
 }
 
 // What a proposal for an original is refused for, or that it is accepted.
-#[unsafe(no_mangle)]
-pub extern "C" fn noemathu_check_proposal(original: &[u8], proposal: &[u8]) -> Number
+pub fn noemathu_check_proposal(original: &[u8], proposal: &[u8]) -> Number
     ensures { result ≡ check_given (bundle_proposal_checked original.now proposal.now) }
 {
     answers::check_number(bundle_proposals::check(original, proposal))
 }
 
 // The URI of a prefix at a row; the empty prefix is the default.
-#[unsafe(no_mangle)]
-pub extern "C" fn noemathu_uri_of_prefix(bundle: &[u8], row: u32, prefix: &[u8]) -> Found
+pub fn noemathu_uri_of_prefix(bundle: &[u8], row: u32, prefix: &[u8]) -> Found
     ensures { result ≡ bound_given (bundle_uri_of_prefix bundle.now row prefix.now) }
 {
     answers::bound(bundle_lookups::uri_of_prefix(bundle, Row(row), prefix))
 }
 
 // A prefix of a URI at a row.
-#[unsafe(no_mangle)]
-pub extern "C" fn noemathu_prefix_of_uri(bundle: &[u8], row: u32, uri: &[u8]) -> Found
+pub fn noemathu_prefix_of_uri(bundle: &[u8], row: u32, uri: &[u8]) -> Found
     ensures { result ≡ located_given (bundle_prefix_of_uri bundle.now row uri.now) }
 {
     answers::located(bundle_lookups::prefix_of_uri(bundle, Row(row), uri))
 }
 
 // The default URI at a row. Whoever asks whether a URI is the default compares; nothing equals the empty URI.
-#[unsafe(no_mangle)]
-pub extern "C" fn noemathu_default_uri(bundle: &[u8], row: u32) -> Found
+pub fn noemathu_default_uri(bundle: &[u8], row: u32) -> Found
     ensures { result ≡ located_given (bundle_default_uri bundle.now row) }
 {
     answers::located(bundle_lookups::default_uri(bundle, Row(row)))
 }
 
 // The in-scope URI of a prefix at a row: by declarations alone.
-#[unsafe(no_mangle)]
-pub extern "C" fn noemathu_in_scope_uri(bundle: &[u8], row: u32, prefix: &[u8]) -> Found
+pub fn noemathu_in_scope_uri(bundle: &[u8], row: u32, prefix: &[u8]) -> Found
     ensures { result ≡ bound_given (bundle_in_scope_uri bundle.now row prefix.now) }
 {
     answers::bound(bundle_lookups::in_scope_uri(bundle, Row(row), prefix))
 }
 
 // An in-scope prefix of a URI at a row: by declarations alone.
-#[unsafe(no_mangle)]
-pub extern "C" fn noemathu_in_scope_prefix(bundle: &[u8], row: u32, uri: &[u8]) -> Found
+pub fn noemathu_in_scope_prefix(bundle: &[u8], row: u32, uri: &[u8]) -> Found
     ensures { result ≡ bound_given (bundle_in_scope_prefix bundle.now row uri.now) }
 {
     answers::bound(bundle_lookups::in_scope_prefix(bundle, Row(row), uri))
@@ -76,8 +68,7 @@ pub extern "C" fn noemathu_in_scope_prefix(bundle: &[u8], row: u32, uri: &[u8]) 
 
 // Normalizes a bundle into a bundle: so that every element and every owned attribute means its URI in scope, whatever the
 // other rows hold. Success answers the bytes that it takes; the rest of the output is zero, and all of it after a refusal.
-#[unsafe(no_mangle)]
-pub extern "C" fn noemathu_normalize(bundle: &[u8], out: &mut [u8]) -> Used
+pub fn noemathu_normalize(bundle: &[u8], out: &mut [u8]) -> Used
     ensures value { result ≡ written_given (bundle_normalized bundle.now (length out.old)).answer }
     ensures out_after { out.new ≡ (bundle_normalized bundle.now (length out.old)).bytes }
 {
@@ -86,8 +77,7 @@ pub extern "C" fn noemathu_normalize(bundle: &[u8], out: &mut [u8]) -> Used
 
 // Packs a bundle into a bundle whose pool is each distinct field once, end to end, in order of first use. Success answers the
 // bytes that it takes; the rest of the output is zero, and all of it after a refusal.
-#[unsafe(no_mangle)]
-pub extern "C" fn noemathu_pack(bundle: &[u8], out: &mut [u8]) -> Used
+pub fn noemathu_pack(bundle: &[u8], out: &mut [u8]) -> Used
     ensures value { result ≡ written_given (bundle_packed bundle.now (length out.old)).answer }
     ensures out_after { out.new ≡ (bundle_packed bundle.now (length out.old)).bytes }
 {
@@ -97,8 +87,7 @@ pub extern "C" fn noemathu_pack(bundle: &[u8], out: &mut [u8]) -> Used
 // Salvages a bundle into a bundle, without the rows that draw 6 and those that draw 7 against a kept row, and lists these: two
 // words for each, the number that the row had, and 6 or 7. Success answers the bytes that it takes and how many rows are
 // dropped; the rest of both outputs is zero, and all of them after a refusal.
-#[unsafe(no_mangle)]
-pub extern "C" fn noemathu_salvage(bundle: &[u8], out: &mut [u8], list: &mut [u32]) -> Saved
+pub fn noemathu_salvage(bundle: &[u8], out: &mut [u8], list: &mut [u32]) -> Saved
     ensures value { result ≡ rescued_given (bundle_salvaged bundle.now (length out.old) (length list.old)).answer }
     ensures out_after { out.new ≡ (bundle_salvaged bundle.now (length out.old) (length list.old)).bytes }
     ensures list_after { list.new ≡ (bundle_salvaged bundle.now (length out.old) (length list.old)).list }
@@ -108,8 +97,7 @@ pub extern "C" fn noemathu_salvage(bundle: &[u8], out: &mut [u8], list: &mut [u3
 
 // Writes the XML text of an element, or of a document's element, and of all that it holds. Success answers the bytes that it
 // takes; the rest of the output is zero, and all of it after a refusal.
-#[unsafe(no_mangle)]
-pub extern "C" fn noemathu_write_xml(bundle: &[u8], row: u32, out: &mut [u8]) -> Used
+pub fn noemathu_write_xml(bundle: &[u8], row: u32, out: &mut [u8]) -> Used
     ensures value { result ≡ written_given (bundle_text bundle.now row (length out.old)).answer }
     ensures out_after { out.new ≡ (bundle_text bundle.now row (length out.old)).bytes }
 {
@@ -118,8 +106,7 @@ pub extern "C" fn noemathu_write_xml(bundle: &[u8], row: u32, out: &mut [u8]) ->
 
 // Reads a bundle into a table and a pool. Success answers the rows and bytes that it takes; the rest of both outputs is zero,
 // and all of them after a refusal.
-#[unsafe(no_mangle)]
-pub extern "C" fn noemathu_read(bundle: &[u8], out_table: &mut [u32], out_pool: &mut [u8]) -> Sizes
+pub fn noemathu_read(bundle: &[u8], out_table: &mut [u32], out_pool: &mut [u8]) -> Sizes
     ensures value { result ≡ filled_given (bundle_read bundle.now (length out_table.old) (length out_pool.old)).answer }
     ensures out_table_after { out_table.new ≡ (bundle_read bundle.now (length out_table.old) (length out_pool.old)).table }
     ensures out_pool_after { out_pool.new ≡ (bundle_read bundle.now (length out_table.old) (length out_pool.old)).pool }
@@ -129,8 +116,7 @@ pub extern "C" fn noemathu_read(bundle: &[u8], out_table: &mut [u32], out_pool: 
 
 // Writes a table and its pool as a bundle. Success answers the bytes that it takes; the rest of the output is zero, and all of
 // it after a refusal.
-#[unsafe(no_mangle)]
-pub extern "C" fn noemathu_write(table: &[u32], pool: &[u8], out: &mut [u8]) -> Used
+pub fn noemathu_write(table: &[u32], pool: &[u8], out: &mut [u8]) -> Used
     ensures value { result ≡ written_given (table_written table.now pool.now (length out.old)).answer }
     ensures out_after { out.new ≡ (table_written table.now pool.now (length out.old)).bytes }
 {

@@ -165,7 +165,7 @@ fn check_asked(
 ) -> Checked
     requires pool_value { check_refusal original.now pool.now ≡ none }
     requires noted { Noted original.now pool.now mine.now }
-    requires ground { Ground proposal.now other.now 0 notes.old xml.0 (120 ∷ 109 ∷ 108 ∷ []) }
+    requires grounded { Ground proposal.now other.now 0 notes.old xml.0 (120 ∷ 109 ∷ 108 ∷ []) }
     requires cleared { Cleared proposal.now tops.old path.old }
     ensures { result ≡ proposal_checked original.now pool.now proposal.now other.now }
 {

@@ -26,7 +26,7 @@ pub fn judge_asked(
     tops: &mut [u16],
     path: &mut [u16],
 ) -> Judged
-    requires ground { Ground table.now pool.now row.0 notes.old xml.0 (120 ∷ 109 ∷ 108 ∷ []) }
+    requires grounded { Ground table.now pool.now row.0 notes.old xml.0 (120 ∷ 109 ∷ 108 ∷ []) }
     requires cleared { Cleared table.now tops.old path.old }
     ensures { WrittenFrom table.now pool.now row.0 result }
 {

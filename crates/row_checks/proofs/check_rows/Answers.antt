@@ -1,0 +1,19 @@
+-- `row_checks::check_rows` meets its contract.
+use mathlib.Core.Path.{refl, sym, ap, ◌∙◌}
+use Rattle.rules.proofs.Lists.{true-not-false}
+use Rattle.row_checks.specs.Judging.{checked_of}
+use Rattle.row_checks.proofs.check_rows.Goals as goal
+
+pub judge_rows-requires : goal.judge_rows-requires
+judge_rows-requires c =
+    record { enough = c.requires.enough; judging = c.requires.judging; dictionary = c.requires.dictionary; table_in_bounds = λ on. absurd (true-not-false on refl); fated = λ on. absurd (true-not-false on refl) }
+
+pub returns-in-Done : goal.returns-in-Done
+unfolding checked_of
+returns-in-Done c =
+    let t = ap checked_of c.in-Done.is in record { value = λ e. sym t ∙ c.judge_rows.ensures.result_value e refl; named = λ e a. c.judge_rows.ensures.named e t; by_index = c.judge_rows.ensures.by_index }
+
+pub returns-in-Refused : goal.returns-in-Refused
+unfolding checked_of
+returns-in-Refused c =
+    let t = ap checked_of c.in-Refused.is in record { value = λ e. sym t ∙ c.judge_rows.ensures.result_value e refl; named = λ e a. c.judge_rows.ensures.named e (t ∙ a); by_index = c.judge_rows.ensures.by_index }
