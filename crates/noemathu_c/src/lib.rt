@@ -14,7 +14,6 @@ ghost use Rattle.salvage.specs.Salvage.{bundle_salvaged};
 use answers::Found;
 use output_answers::{Sizes, Used};
 use refusal_numbers::Number;
-use rules::Row;
 use salvage_answers::Saved;
 
 // The first refusal that a bundle draws, or that it is accepted.

@@ -1,4 +1,3 @@
--- The measure is the number, which falls to the number of the digits before the last.
 use Rattle.additions.proofs.+append_numbered.Given as goal
 
 abbrev pub decreases-append_numbered : goal.decreases-append_numbered

@@ -1,8 +1,4 @@
 -- `bundle_opening::judge` meets its contract.
--- The mark is right.
--- And the version.
--- And the lengths agree.
--- And there are not too many rows.
 use mathlib.Core.Path.{◌≡◌, sym, ap, ◌∙◌}
 use mathlib.Core.Bool.{false}
 use mathlib.Core.Option.{none}

@@ -1,7 +1,4 @@
 -- `bundle_opening::read_rows` meets its contract.
--- The bundle is not refused.
--- It is from before makers.
--- It is not.
 use mathlib.Core.Path.{◌≡◌, sym, ◌∙◌}
 use mathlib.Core.Bool.{true, false}
 use native.Mathlib.Omega.{arith}

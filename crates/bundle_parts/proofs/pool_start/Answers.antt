@@ -1,5 +1,4 @@
 -- `bundle_parts::pool_start` meets its contract.
--- The start, by the bytes of a row and the rows that were read.
 use Prim.Native.Nat.{ℕ, ◌+◌, ◌*◌}
 use mathlib.Core.Path.{◌≡◌, refl, sym, ◌∙◌}
 use mathlib.Core.List.{List}

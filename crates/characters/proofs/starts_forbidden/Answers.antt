@@ -1,5 +1,4 @@
 -- `characters::starts_forbidden` meets its contract.
--- The byte is no control character.
 use mathlib.Core.Path.{◌≡◌, sym, ◌∙◌}
 use mathlib.Core.Bool.{false}
 use native.Mathlib.Omega.{arith}

@@ -1,5 +1,5 @@
 -- `children::link_all` meets its contract. The invariant: the rows of both kinds from `r` on are linked.
-use Prim.Native.Nat.{◌-◌, ◌≤◌}
+use Prim.Native.Nat.{◌≤◌}
 use mathlib.Core.Path.{◌≡◌}
 use lib.ListN.{length}
 use Rattle.rules.specs.Table.{row_count}

@@ -1,6 +1,5 @@
 -- `declarations::own` meets its contract. The invariant: what the walk finds from here on, or else what it has found, is what there
 -- is to find.
--- In the loop the row is one of the table's.
 use Prim.Native.Nat.{ℕ}
 use mathlib.Core.List.{List}
 use Rattle.rules.specs.Lookups.{declares}

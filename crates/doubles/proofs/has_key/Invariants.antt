@@ -1,5 +1,4 @@
 -- `has_key` meets its contract. The invariant: whichever rows are entered, what is left of the chain decides.
--- The search among the rows that are entered.
 use Prim.Native.Nat.{ℕ}
 use mathlib.Core.Bool.{Bool}
 use Rattle.chains.specs.Chains.{Walked}

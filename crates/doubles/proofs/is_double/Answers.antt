@@ -1,7 +1,5 @@
 -- `is_double` meets its contract.
 use mathlib.Core.Path.{sym, ◌∙◌}
-use mathlib.Core.Bool.{true}
-use Rattle.doubles.specs.Doubles.{key_of}
 use Rattle.doubles.proofs.Keys.{none_owned, some-owned, bucket-owned, double-none, double-found}
 use Rattle.doubles.proofs.is_double.Goals as goal
 

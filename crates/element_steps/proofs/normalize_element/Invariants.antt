@@ -1,5 +1,4 @@
 -- `element_steps::normalize_element` meets its contract.
--- The element's steps 1 and 2, at the loop; the turn of the loop.
 use Rattle.element_steps.proofs.Walk.{Walking, left}
 use Rattle.element_steps.proofs.normalize_element.Given as goal
 

@@ -1,7 +1,6 @@
 use mathlib.Core.Path.{refl, sym, ◌∙◌}
 use native.Mathlib.Omega.{arith}
 use Rattle.chains.proofs.Laws.{walk_start, walk_end, walk-found, walk-falls, walk-next}
-use Rattle.entries.specs.Entries.{is_named}
 use Rattle.entries.proofs.Finding.{name-search}
 use Rattle.entries.proofs.find.Goals as goal
 

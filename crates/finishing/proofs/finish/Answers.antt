@@ -1,5 +1,4 @@
 -- `finishing::finish` meets its contract.
--- The result fits.
 use Prim.Native.Nat.{◌*◌, ◌≤◌}
 use mathlib.Core.Path.{◌≡◌, refl, sym, ◌∙◌}
 use lib.ListN.{length}

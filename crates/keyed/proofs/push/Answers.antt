@@ -1,8 +1,4 @@
 -- `keyed::push` meets its contract.
--- src/lib.rt:66:7
--- src/lib.rt:66:7
--- src/lib.rt:66:5
--- src/lib.rt:62:1
 use native.Mathlib.Omega.{arith}
 use Rattle.keyed.proofs.Sums.{product, told}
 use Rattle.keyed.proofs.push.Goals as goal

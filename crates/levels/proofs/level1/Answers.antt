@@ -1,6 +1,4 @@
-use Prim.Native.Nat.{◌-◌}
 use mathlib.Core.Path.{sym}
-use native.Mathlib.Omega.{arith}
 use borrow.Author.Tests.{ltb-true, ltb-false}
 use Rattle.levels.proofs.Scan.{scan-start, scan-found, scan-next, scan-end}
 use Rattle.levels.proofs.level1.Goals as goal

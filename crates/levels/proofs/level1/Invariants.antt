@@ -1,5 +1,4 @@
 -- `levels::level1` meets its contract. The invariant: the rows that are left decide.
--- A turn's row is one of the table's.
 use Prim.Native.Nat.{ℕ, ◌-◌}
 use mathlib.Core.List.{List}
 use Rattle.rules.specs.Table.{row_count}

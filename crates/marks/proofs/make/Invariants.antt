@@ -1,23 +1,5 @@
 -- `make` meets its contract. The invariant: the marks from block k on are right, and the last one is at hand.
--- src/marks.rt:26:5
--- src/marks.rt:27:9
--- src/marks.rt:28:39
--- src/marks.rt:28:13
--- src/marks.rt:29:9
--- src/marks.rt:31:24
--- src/marks.rt:31:15
--- src/marks.rt:31:9
--- src/marks.rt:31:9
--- src/marks.rt:32:28
--- src/marks.rt:32:15
--- src/marks.rt:32:15
--- src/marks.rt:32:9
--- src/marks.rt:32:9
--- src/marks.rt:26:5
--- src/marks.rt:26:5
--- src/marks.rt:18:1
--- src/marks.rt:18:1
-use Prim.Native.Nat.{◌-◌, ◌≤◌}
+use Prim.Native.Nat.{◌≤◌}
 use mathlib.Core.Path.{◌≡◌}
 use lib.ListN.{length}
 use Rattle.marks.specs.Marks.{BLOCKS, Mark}

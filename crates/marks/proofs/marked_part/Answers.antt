@@ -1,16 +1,4 @@
 -- `marked_part` meets its contract.
--- src/marks.rt:62:28
--- src/marks.rt:62:28
--- src/marks.rt:62:28
--- src/marks.rt:62:9
--- src/marks.rt:63:9
--- src/marks.rt:66:35
--- src/marks.rt:66:35
--- src/marks.rt:66:9
--- src/marks.rt:66:9
--- src/marks.rt:68:14
--- src/marks.rt:68:6
--- src/marks.rt:57:1
 use mathlib.Core.Path.{sym, ap, ◌∙◌}
 use mathlib.Core.Bool.{not}
 use native.Mathlib.Omega.{arith}

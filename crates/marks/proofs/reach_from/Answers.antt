@@ -1,10 +1,4 @@
 -- `reach_from` meets its contract.
--- src/marks.rt:75:27
--- src/marks.rt:75:27
--- src/marks.rt:75:27
--- src/marks.rt:75:8
--- src/marks.rt:76:9
--- src/marks.rt:70:1
 use mathlib.Core.Path.{sym, ◌∙◌}
 use Rattle.marks.proofs.Cutting.{mark-joined, mark-anew}
 use Rattle.marks.proofs.reach_from.Goals as goal

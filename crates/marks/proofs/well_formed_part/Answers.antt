@@ -1,26 +1,4 @@
 -- `well_formed_part` meets its contract.
--- src/marks.rt:45:13
--- src/marks.rt:46:29
--- src/marks.rt:46:23
--- src/marks.rt:46:23
--- src/marks.rt:46:9
--- src/marks.rt:48:35
--- src/marks.rt:48:35
--- src/marks.rt:48:35
--- src/marks.rt:48:9
--- src/marks.rt:48:9
--- src/marks.rt:51:35
--- src/marks.rt:51:35
--- src/marks.rt:51:35
--- src/marks.rt:51:9
--- src/marks.rt:51:9
--- src/marks.rt:53:49
--- src/marks.rt:53:49
--- src/marks.rt:53:43
--- src/marks.rt:53:43
--- src/marks.rt:53:37
--- src/marks.rt:53:5
--- src/marks.rt:39:1
 use Prim.Native.Nat.{◌+◌, ◌/◌}
 use native.Mathlib.Omega.{arith}
 use Rattle.marks.proofs.Cutting.{marked-at}

@@ -1,5 +1,4 @@
 -- `check_each` meets its contract.
--- The row, and the tests that were passed.
 use mathlib.Core.Path.{◌≡◌, sym, ◌∙◌}
 use Rattle.rules.specs.Table.{node_at}
 use Rattle.rules.specs.Refusals.{bad_names, bad_namespace}

@@ -1,5 +1,4 @@
 -- `names::same` meets its contract. The invariant of both loops: the strings are the same from i on.
-use Prim.Native.Nat.{◌-◌}
 use Rattle.short_strings.proofs.Bytes.{EqualFrom}
 use Rattle.names.proofs.same.Given as goal
 

@@ -1,7 +1,6 @@
 use mathlib.Core.Path.{refl, sym, ◌∙◌}
 use native.Mathlib.Omega.{arith}
 use Rattle.chains.proofs.Laws.{walk_start, walk_end, walk-found, walk-falls, walk-next}
-use Rattle.packed_index.specs.Index.{is_named}
 use Rattle.packed_index.proofs.Finding.{name-search}
 use Rattle.packed_index.proofs.find.Goals as goal
 

@@ -1,4 +1,3 @@
-use Prim.Native.Nat.{◌-◌}
 use native.Mathlib.Omega.{arith}
 use Rattle.repeats.proofs.Repeating.{repeats-more}
 use Rattle.repeats.proofs.grown.Goals as goal

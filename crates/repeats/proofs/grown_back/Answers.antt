@@ -1,4 +1,3 @@
-use Prim.Native.Nat.{◌-◌}
 use native.Mathlib.Omega.{arith}
 use Rattle.repeats.proofs.Repeating.{repeats-start, repeats-before}
 use Rattle.repeats.proofs.grown_back.Goals as goal

@@ -1,4 +1,3 @@
-use Prim.Native.Nat.{◌-◌}
 use Rattle.repeats.proofs.guess.Goals as goal
 
 pub loop-k-init : goal.loop-k-init

@@ -1,5 +1,4 @@
 -- `run_lengths::measure_runs` meets its contract. The invariant: the lengths from byte i on are stored.
-use Prim.Native.Nat.{◌-◌}
 use Rattle.run_lengths.proofs.Lengths.{Stored}
 use Rattle.run_lengths.proofs.measure_runs.Given as goal
 

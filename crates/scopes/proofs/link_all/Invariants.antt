@@ -6,7 +6,7 @@ use Rattle.scopes.specs.Standing.{Linked, Relinked}
 use Rattle.scopes.proofs.link_all.Given as goal
 
 abbrev pub invariant-loop-r : goal.invariant-loop-r
-invariant-loop-r l =     Linked l.table l.notes l.r × (l.r ≤ l.n) × (length l.notes ≡ length l.initial.notes) × Relinked l.initial.notes l.notes
+invariant-loop-r l = Linked l.table l.notes l.r × (l.r ≤ l.n) × (length l.notes ≡ length l.initial.notes) × Relinked l.initial.notes l.notes
 
 abbrev pub decreases-loop-r : goal.decreases-loop-r
 decreases-loop-r l = l.n - l.r

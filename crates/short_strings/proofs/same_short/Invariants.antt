@@ -1,5 +1,5 @@
 -- `short_strings::same_short` meets its contract. The invariant: the strings are equal from i on.
-use Prim.Native.Nat.{◌-◌, ◌%◌}
+use Prim.Native.Nat.{◌%◌}
 use mathlib.Core.Path.{◌≡◌}
 use Rattle.short_strings.proofs.Bytes.{EqualFrom}
 use Rattle.short_strings.proofs.same_short.Given as goal

@@ -1,5 +1,4 @@
 -- `same` meets its contract. The invariant: the strings are equal from i on.
-use Prim.Native.Nat.{◌-◌}
 use Rattle.short_strings.proofs.Bytes.{EqualFrom}
 use Rattle.short_values.proofs.same.Given as goal
 

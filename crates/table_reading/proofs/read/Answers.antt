@@ -1,5 +1,4 @@
 -- `table_reading::read` meets its contract.
--- The read is not refused.
 use lib.ListN.{length}
 use mathlib.Core.Path.{sym, ◌∙◌}
 use native.Mathlib.Omega.{arith}

@@ -1,6 +1,4 @@
 -- `utf8::sequence` meets its contract. Each answer follows from its test, after the bytes that were read.
--- The first byte starts a sequence of two bytes or more, and the bytes go that far.
--- The second byte is in its range, and the third.
 use Prim.Native.Nat.{◌-◌, ◌≤◌}
 use mathlib.Core.Path.{sym, ◌∙◌}
 use native.Mathlib.Nat.{le_antisymm}

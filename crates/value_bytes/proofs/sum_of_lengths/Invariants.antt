@@ -1,5 +1,4 @@
 -- `sum_of_lengths` does not overflow. The invariant: each row adds one word at most.
--- A turn's row is one of the table's.
 use Prim.Native.Nat.{◌*◌, ◌-◌, ◌≤◌}
 use Rattle.rules.specs.Table.{row_count}
 use Rattle.value_bytes.proofs.sum_of_lengths.Given as goal

@@ -1,4 +1,3 @@
--- The measure falls; the top and the row that it lies in are written to the next two places.
 use Prim.Native.Nat.{ℕ, ◌+◌, ◌<◌}
 use native.Mathlib.Omega.{arith}
 use mathlib.Core.Path.{◌≡◌, sym, subst, ◌∙◌}

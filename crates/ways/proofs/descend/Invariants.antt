@@ -1,6 +1,6 @@
 -- `ways::descend` meets its contract. The invariants: the arrays stand at `at`, and the way leads from the position to go to outward to
 -- the top; then they stand where the way leads to.
-use Prim.Native.Nat.{ℕ, ◌+◌, ◌-◌, ◌≤◌}
+use Prim.Native.Nat.{ℕ, ◌+◌, ◌≤◌}
 use mathlib.Core.Path.{◌≡◌}
 use lib.ListN.{length}
 use Rattle.rules.specs.Table.{MOST_ROWS}

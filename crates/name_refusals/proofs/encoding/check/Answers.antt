@@ -1,5 +1,4 @@
 -- `encoding::check` meets its contract.
--- The row, and the tests that were passed.
 use mathlib.Core.Path.{◌≡◌, ap, ◌∙◌}
 use mathlib.Core.Bool.{true, not}
 use Rattle.rules.specs.Table.{node_at}

@@ -1,5 +1,4 @@
 -- `structure::bad` meets its contract.
--- Where both types are low: they are their own lines.
 use Prim.Native.Nat.{◌≤◌, ◌<◌}
 use mathlib.Core.Path.{sym, ap, ◌∙◌}
 use native.Mathlib.Omega.{arith}

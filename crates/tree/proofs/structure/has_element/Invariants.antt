@@ -1,5 +1,5 @@
 -- `structure::has_element` meets its contract. The invariant: the rows that are left decide.
-use Prim.Native.Nat.{◌-◌, ◌≤◌}
+use Prim.Native.Nat.{◌≤◌}
 use mathlib.Core.Path.{◌≡◌}
 use Rattle.tree.specs.Earlier.{any_before, under}
 use Rattle.tree.proofs.structure.has_element.Given as goal
