@@ -17,8 +17,11 @@ pub returns-then-has_row : goal.returns-then-has_row
 returns-then-has_row c =
     let table = c.args.table.now in
     let path = c.collect.new.path in
-    let within : c.start-first.result.0 < row_count table = ltb-true c.start-first.result.0 (row_count table) (sym c.has_row.ensures ∙ c.if-has_row.true) in record { path_of = path-elements table path c.collect.result c.start-first.result.0 c.collect.ensures.upper_bound
-          (c.collect.ensures.by_index [] ∙ all_room table [] c.start-first.result.0 c.args.path.now within c.requires.table_in_bounds.0); by_index = λ pool. lookup-found table pool c.requires.table_in_bounds.1 c.args.row.0 c.start-first.result.0 (c.start-first.ensures pool) c.args.path.now path c.collect.result within c.requires.table_in_bounds.0 (c.collect.ensures.by_index pool) }
+    let within : c.start-first.result.0 < row_count table = ltb-true c.start-first.result.0 (row_count table) (sym c.has_row.ensures ∙ c.if-has_row.true) in record {
+      path_of = path-elements table path c.collect.result c.start-first.result.0 c.collect.ensures.upper_bound
+          (c.collect.ensures.by_index [] ∙ all_room table [] c.start-first.result.0 c.args.path.now within c.requires.table_in_bounds.0);
+      by_index = λ pool. lookup-found table pool c.requires.table_in_bounds.1 c.args.row.0 c.start-first.result.0 (c.start-first.ensures pool) c.args.path.now path c.collect.result within c.requires.table_in_bounds.0 (c.collect.ensures.by_index pool);
+    }
 
 pub returns : goal.returns
 returns c =

@@ -36,5 +36,5 @@ unused-requires-2 c = (has_last c.requires.dictionary, c.requires.dictionary_bou
 pub returns : goal.returns
 returns c =
     let e = lent c.args.dictionary.now (has-places c.requires.dictionary) in
-    let f = rw e at c.number_of-found.ensures in 
+    let f = rw e at c.number_of-found.ensures in
     rw c.unused-2.ensures record { result_bound = omega arith; by_index = asked-none c.requires.dictionary c.args.name.now f c.if-found-gt0.false (λ z. c.if-name-eq0.false z) }

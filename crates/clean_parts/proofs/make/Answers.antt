@@ -14,14 +14,13 @@ pub overflow_cast-reaches : goal.overflow_cast-reaches
 overflow_cast-reaches c = omega arith
 
 pub loop-k-preserved : goal.loop-k-preserved
-loop-k-preserved c =
-    (
-      omega arith,
-      length-set c.loop-k.reaches c.loop-k.k c.reach_from-reach.result ∙ c.loop-k.invariant.1,
-      c.reach_from-reach.ensures.0,
-      λ p h k. c.reach_from-reach.ensures.1 p (omega arith) k,
-      reached-next c.args.pool.now c.loop-k.reaches c.loop-k.k c.reach_from-reach.result (omega arith) c.loop-k.invariant.4 c.reach_from-reach.ensures.1,
-    )
+loop-k-preserved c = (
+  omega arith,
+  length-set c.loop-k.reaches c.loop-k.k c.reach_from-reach.result ∙ c.loop-k.invariant.1,
+  c.reach_from-reach.ensures.0,
+  λ p h k. c.reach_from-reach.ensures.1 p (omega arith) k,
+  reached-next c.args.pool.now c.loop-k.reaches c.loop-k.k c.reach_from-reach.result (omega arith) c.loop-k.invariant.4 c.reach_from-reach.ensures.1,
+)
 
 pub shape_of-reaches : goal.shape_of-reaches
 shape_of-reaches c = c.loop-k.invariant.1

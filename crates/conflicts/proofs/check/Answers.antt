@@ -25,9 +25,12 @@ is_double-requires c =
 pub returns-then-is_double : goal.returns-then-is_double
 unfolding settled
 returns-then-is_double c =
-    record { by_index = λ enters pool e g n.
+    record {
+      by_index = λ enters pool e g n.
           conflict-double enters c.args.table.now pool c.args.row.0 c.requires.row_bound (c.bad_declaration.ensures pool g (n.rows c.args.row.0 (omega arith))) c.if-bad_declaration.false
-          (c.is_double.ensures enters pool _ _ e n) c.if-is_double.true; chains_after = refl }
+          (c.is_double.ensures enters pool _ _ e n) c.if-is_double.true;
+      chains_after = refl;
+    }
 
 pub enter-requires : goal.enter-requires
 enter-requires c =
@@ -37,6 +40,9 @@ enter-requires c =
 pub returns : goal.returns
 unfolding settled
 returns c =
-    record { by_index = λ enters pool e g n.
+    record {
+      by_index = λ enters pool e g n.
           conflict-none enters c.args.table.now pool c.args.row.0 c.requires.row_bound (c.bad_declaration.ensures pool g (n.rows c.args.row.0 (omega arith))) c.if-bad_declaration.false
-          (c.is_double.ensures enters pool _ _ e n) c.if-is_double.false; chains_after = c.enter.ensures ∙ ap (λ (bucket : ℕ). entered c.args.chains.now bucket c.args.row.0) c.bucket_at-bucket.ensures }
+          (c.is_double.ensures enters pool _ _ e n) c.if-is_double.false;
+      chains_after = c.enter.ensures ∙ ap (λ (bucket : ℕ). entered c.args.chains.now bucket c.args.row.0) c.bucket_at-bucket.ensures;
+    }

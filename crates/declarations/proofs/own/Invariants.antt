@@ -9,7 +9,7 @@ use Rattle.declarations.proofs.Walking.{Walking}
 use Rattle.declarations.proofs.own.Given as goal
 
 abbrev pub invariant-loop-at : goal.invariant-loop-at
-invariant-loop-at l =     Reached l.table l.e l.at × ((pool name : List ℕ) → Meant l.table pool l.notes l.wanted name → Walking l.table pool l.e (declares name) l.at l.first)
+invariant-loop-at l = Reached l.table l.e l.at × ((pool name : List ℕ) → Meant l.table pool l.notes l.wanted name → Walking l.table pool l.e (declares name) l.at l.first)
 
 abbrev pub decreases-loop-at : goal.decreases-loop-at
 decreases-loop-at l = l.at

@@ -33,5 +33,8 @@ enter-requires c =
 
 pub returns : goal.returns
 returns c =
-    record { good = λ h. set-done h.at c.position_of-position.ensures c.leave.auto.tops c.leave.auto.path c.leave.ensures.untouched c.leave.ensures.standing_2 _ h.within h.kind h.owner c.set_value.ensures.table_after c.set_value.ensures.notes_after
-          c.enter.auto.tops c.enter.auto.path c.enter.ensures.untouched c.enter.ensures.standing_2; same_attributes = valued-attributes _ _ _ _ c.set_value.ensures.notes_after }
+    record {
+      good = λ h. set-done h.at c.position_of-position.ensures c.leave.auto.tops c.leave.auto.path c.leave.ensures.untouched c.leave.ensures.standing_2 _ h.within h.kind h.owner c.set_value.ensures.table_after c.set_value.ensures.notes_after
+          c.enter.auto.tops c.enter.auto.path c.enter.ensures.untouched c.enter.ensures.standing_2;
+      same_attributes = valued-attributes _ _ _ _ c.set_value.ensures.notes_after;
+    }

@@ -10,7 +10,7 @@ use Rattle.dictionary.proofs.harden.Goals as goal
 
 pub key-requires : goal.key-requires
 key-requires c =
-    let k : length c.clear.new.words ≡ length c.args.dictionary.now = c.clear.auto.words in 
+    let k : length c.clear.new.words ≡ length c.args.dictionary.now = c.clear.auto.words in
     rw (lent c.clear.new.words (omega arith)) record { in_bounds = (entries-long c.clear.new.words (NAMES + WIDTH) (omega arith), c.requires.1); by_index = entries_none c.clear.new.words c.clear.ensures }
 
 pub returns : goal.returns

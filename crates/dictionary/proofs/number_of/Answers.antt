@@ -22,7 +22,7 @@ slice_bounds-intern-start c = has-places c.requires.dictionary
 
 pub intern-number-requires : goal.intern-number-requires
 intern-number-requires c =
-    let full = c.if-place-eq0.false in 
+    let full = c.if-place-eq0.false in
     rw (lent c.args.dictionary.now (has-places c.requires.dictionary)) record { entries = c.requires.dictionary.entries; has_room = c.requires.has_room; within = c.requires.within; length_nonzero = omega arith }
 
 pub returns : goal.returns

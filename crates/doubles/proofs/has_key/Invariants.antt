@@ -6,7 +6,7 @@ use Rattle.doubles.specs.Doubles.{key_of, bucket_of, bucket_among, has_key, Ente
 use Rattle.doubles.proofs.has_key.Given as goal
 
 abbrev pub invariant-loop-at : goal.invariant-loop-at
-invariant-loop-at l = 
+invariant-loop-at l =
     (enters : ℕ → Bool) → Entered enters l.table l.notes l.chains l.r
     → Walked (has_key enters l.table l.notes (key_of l.table l.notes l.r)) (bucket_among enters l.table l.notes) (bucket_of (key_of l.table l.notes l.r)) l.r l.at
 

@@ -54,15 +54,15 @@ pub loop-r-preserved : goal.loop-r-preserved
 loop-r-preserved c =
     let going : (c.loop-r.r < c.args.sizes.rows) × (c.loop-r.rows ≤ c.args.sizes.limit) = both_hold _ _ _ _ c.loop-r-test.true in
     elim c.if-kind-eq-ELEMENT.branch [
-      then-kind-eq-ELEMENT w ↦
-        let there = w.position_of-to.ensures in
-        let here = pass-element c.requires c.loop-r.invariant going.0 going.1 c.kind.ensures w.if-kind-eq-ELEMENT.true there w.forward.auto.tops w.forward.auto.path w.forward.ensures.untouched w.forward.ensures.standing_2 in
-        pass-as w.table-is w.pool-is w.notes-is w.tops-is w.path-is w.rows-is w.bytes-is w.names-is (w.position-is ∙ there)
-        (pass-next c.requires c.loop-r.invariant going.0 going.1 c.kind.ensures w.if-kind-eq-ELEMENT.true there w.forward.auto.tops w.forward.auto.path w.forward.ensures.untouched w.forward.ensures.standing_2 (w.normalize_element-made.ensures _ here)
-        w.normalize_element-made.auto.table w.normalize_element-made.auto.pool w.normalize_element-made.auto.notes w.normalize_element-made.auto.tops w.normalize_element-made.auto.path)
-    | else-kind-eq-ELEMENT w ↦
-        pass-as w.table-is w.pool-is w.notes-is w.tops-is w.path-is w.rows-is w.bytes-is w.names-is w.position-is
-        (pass-other c.requires c.loop-r.invariant going.0 going.1 c.kind.ensures w.if-kind-eq-ELEMENT.false)
+      | then-kind-eq-ELEMENT w ↦
+          let there = w.position_of-to.ensures in
+          let here = pass-element c.requires c.loop-r.invariant going.0 going.1 c.kind.ensures w.if-kind-eq-ELEMENT.true there w.forward.auto.tops w.forward.auto.path w.forward.ensures.untouched w.forward.ensures.standing_2 in
+          pass-as w.table-is w.pool-is w.notes-is w.tops-is w.path-is w.rows-is w.bytes-is w.names-is (w.position-is ∙ there)
+          (pass-next c.requires c.loop-r.invariant going.0 going.1 c.kind.ensures w.if-kind-eq-ELEMENT.true there w.forward.auto.tops w.forward.auto.path w.forward.ensures.untouched w.forward.ensures.standing_2 (w.normalize_element-made.ensures _ here)
+          w.normalize_element-made.auto.table w.normalize_element-made.auto.pool w.normalize_element-made.auto.notes w.normalize_element-made.auto.tops w.normalize_element-made.auto.path)
+      | else-kind-eq-ELEMENT w ↦
+          pass-as w.table-is w.pool-is w.notes-is w.tops-is w.path-is w.rows-is w.bytes-is w.names-is w.position-is
+          (pass-other c.requires c.loop-r.invariant going.0 going.1 c.kind.ensures w.if-kind-eq-ELEMENT.false)
     ]
 
 pub shape_of-table : goal.shape_of-table

@@ -29,13 +29,12 @@ loop-at-smaller c =
     walk-falls _ _ c.requires.along.ready _ c.requires.element _ c.loop-at.invariant.0 c.loop-at-test.true _ c.row_at-row.ensures _ c.link-at-in-loop-at.ensures
 
 pub loop-at-preserved : goal.loop-at-preserved
-loop-at-preserved c =
-    (
-      walk-next _ _ c.requires.along.ready _ c.requires.element _ c.loop-at.invariant.0 c.loop-at-test.true _ c.row_at-row.ensures _ c.link-at-in-loop-at.ensures,
-      λ pool name meant other.
-          walking-next _ _ c.requires.along.ready _ c.requires.element pool (tree meant) (serves (scope_of (nodes c.args.table.now pool) c.args.path.now) name) _ _ (c.loop-at.invariant.1 pool name meant other) c.loop-at.invariant.0 c.loop-at-test.true _ c.row_at-row.ensures _ c.link-at-in-loop-at.ensures _
-          (c.serves-is.ensures pool name meant other) _ c.earlier-first.ensures,
-    )
+loop-at-preserved c = (
+  walk-next _ _ c.requires.along.ready _ c.requires.element _ c.loop-at.invariant.0 c.loop-at-test.true _ c.row_at-row.ensures _ c.link-at-in-loop-at.ensures,
+  λ pool name meant other.
+      walking-next _ _ c.requires.along.ready _ c.requires.element pool (tree meant) (serves (scope_of (nodes c.args.table.now pool) c.args.path.now) name) _ _ (c.loop-at.invariant.1 pool name meant other) c.loop-at.invariant.0 c.loop-at-test.true _ c.row_at-row.ensures _ c.link-at-in-loop-at.ensures _
+      (c.serves-is.ensures pool name meant other) _ c.earlier-first.ensures,
+)
 
 pub returns : goal.returns
 returns c =

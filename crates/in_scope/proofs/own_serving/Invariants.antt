@@ -13,7 +13,7 @@ use Rattle.declarations.proofs.Walking.{Walking}
 use Rattle.in_scope.proofs.own_serving.Given as goal
 
 abbrev pub invariant-loop-at : goal.invariant-loop-at
-invariant-loop-at l = 
+invariant-loop-at l =
     Reached l.table l.e l.at
     × ((pool name : List ℕ) → Meant l.table pool l.notes l.wanted name → same_bytes name xml_uri ≡ false → Walking l.table pool l.e (serves (scope_of (nodes l.table pool) l.path) name) l.at l.first)
 

@@ -12,7 +12,7 @@ use Rattle.declarations.proofs.Path.{Searching}
 use Rattle.in_scope.proofs.serving.Given as goal
 
 abbrev pub invariant-loop-i : goal.invariant-loop-i
-invariant-loop-i l =     (pool name : List ℕ) → Meant l.table pool l.notes l.wanted name → same_bytes name xml_uri ≡ false → Searching l.table pool l.path (serves (scope_of (nodes l.table pool) l.path) name) l.i
+invariant-loop-i l = (pool name : List ℕ) → Meant l.table pool l.notes l.wanted name → same_bytes name xml_uri ≡ false → Searching l.table pool l.path (serves (scope_of (nodes l.table pool) l.path) name) l.i
 
 abbrev pub decreases-loop-i : goal.decreases-loop-i
 decreases-loop-i l = length l.path - l.i

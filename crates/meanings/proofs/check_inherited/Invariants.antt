@@ -12,7 +12,7 @@ use Rattle.unsettled.specs.Walkable.{Walkable}
 use Rattle.meanings.proofs.check_inherited.Given as goal
 
 abbrev pub invariant-loop-e : goal.invariant-loop-e
-invariant-loop-e l = 
+invariant-loop-e l =
     (pool path : List ℕ) → Walkable l.table pool l.notes l.tops path → Standing l.table l.notes l.tops path (l.e + 1) → l.e < row_count l.table → is_element (node (nodes l.table pool) l.e).type ≡ true
     → Scanning l.table pool (is_inherited (nodes l.table pool) l.e) Refusal.Inherited l.r
 

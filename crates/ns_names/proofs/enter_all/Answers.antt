@@ -17,12 +17,11 @@ pub name_of-requires : goal.name_of-requires
 name_of-requires c = has_words c.requires.dictionary (c.loop-n.n + 1) (record { known = omega arith; spelled = refl })
 
 pub loop-n-preserved : goal.loop-n-preserved
-loop-n-preserved c =
-    (
-      omega arith,
-      entered-next (spelling c.args.dictionary.now c.args.pool.now) c.args.records.now c.loop-n.invariant.1 c.name_of.ensures c.numbered-k.ensures c.enter.ensures,
-      c.enter.auto.records ∙ c.loop-n.invariant.2,
-    )
+loop-n-preserved c = (
+  omega arith,
+  entered-next (spelling c.args.dictionary.now c.args.pool.now) c.args.records.now c.loop-n.invariant.1 c.name_of.ensures c.numbered-k.ensures c.enter.ensures,
+  c.enter.auto.records ∙ c.loop-n.invariant.2,
+)
 
 pub shape_of-records : goal.shape_of-records
 shape_of-records c = c.loop-n.invariant.2

@@ -38,7 +38,10 @@ returns c =
     let prefix = no-prefix c.args.table.now c.args.pool.now c.args.row.0 c.requires.pool_len_bound.0 c.requires.pool_len_bound.1 must.0 in
     let local = no_local c.args.table.now c.args.pool.now c.args.row.0 c.requires.pool_len_bound.0 c.requires.pool_len_bound.1 must.1 in
     let uri = no-uri c.args.table.now c.args.pool.now c.args.row.0 c.requires.pool_len_bound.0 c.requires.pool_len_bound.1 must.2 in
-    let g = c.requires.dictionary in record { row_numbered = row-numbered n (omega arith) (empty-numbered _ c.args.row.0 PREFIX (word-inside c.args.table.now c.args.row.0 PREFIX c.requires.row_bound.0 c.requires.row_bound.1 (refl) (omega arith)) c.set_name.ensures g prefix)
+    let g = c.requires.dictionary in record {
+      row_numbered = row-numbered n (omega arith) (empty-numbered _ c.args.row.0 PREFIX (word-inside c.args.table.now c.args.row.0 PREFIX c.requires.row_bound.0 c.requires.row_bound.1 (refl) (omega arith)) c.set_name.ensures g prefix)
           (empty-numbered _ c.args.row.0 LOCAL_NAME (word-inside c.args.table.now c.args.row.0 LOCAL_NAME c.requires.row_bound.0 c.requires.row_bound.1 c.set_name.auto.notes (omega arith)) c.set_name-2.ensures g local)
           (empty-numbered _ c.args.row.0 URI (word-inside c.args.table.now c.args.row.0 URI c.requires.row_bound.0 c.requires.row_bound.1 (c.set_name-2.auto.notes ∙ c.set_name.auto.notes) (omega arith)) c.set_name-3.ensures g uri)
-          (empty-numbered _ c.args.row.0 VALUE (word-inside c.args.table.now c.args.row.0 VALUE c.requires.row_bound.0 c.requires.row_bound.1 (c.set_name-3.auto.notes ∙ c.set_name-2.auto.notes ∙ c.set_name.auto.notes) (omega arith)) c.set_name-4.ensures g (no_value n t)); value = kinds-none n prefix local uri t }
+          (empty-numbered _ c.args.row.0 VALUE (word-inside c.args.table.now c.args.row.0 VALUE c.requires.row_bound.0 c.requires.row_bound.1 (c.set_name-3.auto.notes ∙ c.set_name-2.auto.notes ∙ c.set_name.auto.notes) (omega arith)) c.set_name-4.ensures g (no_value n t));
+      value = kinds-none n prefix local uri t;
+    }

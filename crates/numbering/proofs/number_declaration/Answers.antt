@@ -28,5 +28,8 @@ returns c =
     let n = node_at c.args.table.now c.args.pool.now c.args.row.0 in
     let must = declaration-empty t in
     let prefix = no-prefix c.args.table.now c.args.pool.now c.args.row.0 c.requires.pool_len_bound.0 c.requires.pool_len_bound.1 must.0 in
-    let uri = no-uri c.args.table.now c.args.pool.now c.args.row.0 c.requires.pool_len_bound.0 c.requires.pool_len_bound.1 must.1 in record { row_numbered = row-numbered n (omega arith) (empty-numbered _ c.args.row.0 PREFIX (word-inside c.args.table.now c.args.row.0 PREFIX c.requires.row_bound.0 c.requires.row_bound.1 (refl) (omega arith)) c.set_name.ensures c.requires.dictionary prefix) c.number_new-local.ensures.field_numbered
-          (empty-numbered _ c.args.row.0 URI (word-inside c.args.table.now c.args.row.0 URI c.requires.row_bound.0 c.requires.row_bound.1 (c.number_new-local.auto.notes ∙ c.set_name.auto.notes) (omega arith)) c.set_name-2.ensures c.number_new-local.ensures.field_numbered.right uri) (value-numbered n t c.number_new-value.ensures.field_numbered); value = kinds-declared n c.number_new-local.ensures.value t prefix uri c.number_new-value.ensures.value }
+    let uri = no-uri c.args.table.now c.args.pool.now c.args.row.0 c.requires.pool_len_bound.0 c.requires.pool_len_bound.1 must.1 in record {
+      row_numbered = row-numbered n (omega arith) (empty-numbered _ c.args.row.0 PREFIX (word-inside c.args.table.now c.args.row.0 PREFIX c.requires.row_bound.0 c.requires.row_bound.1 (refl) (omega arith)) c.set_name.ensures c.requires.dictionary prefix) c.number_new-local.ensures.field_numbered
+          (empty-numbered _ c.args.row.0 URI (word-inside c.args.table.now c.args.row.0 URI c.requires.row_bound.0 c.requires.row_bound.1 (c.number_new-local.auto.notes ∙ c.set_name.auto.notes) (omega arith)) c.set_name-2.ensures c.number_new-local.ensures.field_numbered.right uri) (value-numbered n t c.number_new-value.ensures.field_numbered);
+      value = kinds-declared n c.number_new-local.ensures.value t prefix uri c.number_new-value.ensures.value;
+    }

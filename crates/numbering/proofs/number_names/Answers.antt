@@ -25,5 +25,8 @@ set_name-requires c =
 
 pub returns : goal.returns
 returns c =
-    let n = node_at c.args.table.now c.args.pool.now c.args.row.0 in record { row_numbered = row-numbered n (omega arith) c.number_field-prefix.ensures.field_numbered c.number_field-local.ensures.field_numbered c.number_field-uri.ensures.field_numbered
-          (empty-numbered _ c.args.row.0 VALUE (word-inside c.args.table.now c.args.row.0 VALUE c.requires.row_bound.0 c.requires.row_bound.1 (c.number_field-uri.auto.notes ∙ c.number_field-local.auto.notes ∙ c.number_field-prefix.auto.notes) (omega arith)) c.set_name.ensures c.number_field-uri.ensures.field_numbered.right (no_value n c.requires.fact)); value = kinds-named n c.number_field-prefix.ensures.value c.number_field-local.ensures.value c.number_field-uri.ensures.value c.requires.fact }
+    let n = node_at c.args.table.now c.args.pool.now c.args.row.0 in record {
+      row_numbered = row-numbered n (omega arith) c.number_field-prefix.ensures.field_numbered c.number_field-local.ensures.field_numbered c.number_field-uri.ensures.field_numbered
+          (empty-numbered _ c.args.row.0 VALUE (word-inside c.args.table.now c.args.row.0 VALUE c.requires.row_bound.0 c.requires.row_bound.1 (c.number_field-uri.auto.notes ∙ c.number_field-local.auto.notes ∙ c.number_field-prefix.auto.notes) (omega arith)) c.set_name.ensures c.number_field-uri.ensures.field_numbered.right (no_value n c.requires.fact));
+      value = kinds-named n c.number_field-prefix.ensures.value c.number_field-local.ensures.value c.number_field-uri.ensures.value c.requires.fact;
+    }

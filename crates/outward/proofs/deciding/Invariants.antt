@@ -10,7 +10,7 @@ use Rattle.outward.proofs.Left.{Left, uri_lookup}
 use Rattle.outward.proofs.deciding.Given as goal
 
 abbrev pub invariant-loop-left : goal.invariant-loop-left
-invariant-loop-left l =     Along l.table l.notes l.left × ((pool name : List ℕ) → Meant l.table pool l.notes l.wanted name → (ordinary : Ordinary name) → Left l.table pool l.path (uri_lookup (nodes l.table pool) name ordinary) l.left)
+invariant-loop-left l = Along l.table l.notes l.left × ((pool name : List ℕ) → Meant l.table pool l.notes l.wanted name → (ordinary : Ordinary name) → Left l.table pool l.path (uri_lookup (nodes l.table pool) name ordinary) l.left)
 
 abbrev pub decreases-loop-left : goal.decreases-loop-left
 decreases-loop-left l = length l.left

@@ -30,7 +30,7 @@ mark_name-mark-requires c =
     let i = c.requires.has_field.1 in
     let within = i.within in
     let number : Names c.requires.by_index.0 c.requires.by_index.1 c.name-number.result.0 (field_at c.args.table.now c.args.pool.now c.args.row.0 c.args.field).bytes = rw c.name-number.ensures c.requires.by_index.5 in
-    let full = full_size c.args.pool.now (field_at c.args.table.now c.args.pool.now c.args.row.0 c.args.field).offset (field_at c.args.table.now c.args.pool.now c.args.row.0 c.args.field).size (full-name g.spelled number (omega (arith, c.if-number-eq0.false))) in 
+    let full = full_size c.args.pool.now (field_at c.args.table.now c.args.pool.now c.args.row.0 c.args.field).offset (field_at c.args.table.now c.args.pool.now c.args.row.0 c.args.field).size (full-name g.spelled number (omega (arith, c.if-number-eq0.false))) in
     rw c.place-place.ensures record { tables = (g.hashes, st.right.chains, has_room st); within = ((within, g.small, full), g.limited) }
 
 pub returns-then-mark-eq0 : goal.returns-then-mark-eq0

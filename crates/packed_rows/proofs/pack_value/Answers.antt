@@ -25,7 +25,7 @@ pub mark_value-mark-requires : goal.mark_value-mark-requires
 mark_value-mark-requires c =
     let within = (inside-value c.args.table.now c.args.pool.now c.args.row.0 c.requires.3.small c.requires.3.fields).within in
     let size = ap (λ (q : Place). q.length) c.place-place.ensures in
-    let some : 0 < (field_at c.args.table.now c.args.pool.now c.args.row.0 VALUE).size = omega (arith, c.if-place-eq0.false) in 
+    let some : 0 < (field_at c.args.table.now c.args.pool.now c.args.row.0 VALUE).size = omega (arith, c.if-place-eq0.false) in
     rw c.place-place.ensures record { tables = (c.requires.3.hashes, c.requires.4.right.chains, has_room c.requires.4); within = ((within, c.requires.3.small, some), c.requires.3.limited) }
 
 pub returns-then-mark-eq0 : goal.returns-then-mark-eq0

@@ -29,13 +29,12 @@ loop-at-smaller c =
     walk-falls _ _ c.requires.started.along.ready _ c.requires.element _ c.loop-at.invariant.0 c.loop-at-test.true _ c.row_at-row.ensures _ c.link-at-in-loop-at.ensures
 
 pub loop-at-preserved : goal.loop-at-preserved
-loop-at-preserved c =
-    (
-      walk-next _ _ c.requires.started.along.ready _ c.requires.element _ c.loop-at.invariant.0 c.loop-at-test.true _ c.row_at-row.ensures _ c.link-at-in-loop-at.ensures,
-      λ pool name meant xml.
-          walking-next _ _ c.requires.started.along.ready _ c.requires.element pool (tree meant) (gives_prefix (nodes c.args.table.now pool) c.args.path.now name) _ _ (c.loop-at.invariant.1 pool name meant xml) c.loop-at.invariant.0 c.loop-at-test.true _ c.row_at-row.ensures _ c.link-at-in-loop-at.ensures _
-          (c.gives_prefix-is.ensures pool name meant xml) _ c.earlier-first.ensures,
-    )
+loop-at-preserved c = (
+  walk-next _ _ c.requires.started.along.ready _ c.requires.element _ c.loop-at.invariant.0 c.loop-at-test.true _ c.row_at-row.ensures _ c.link-at-in-loop-at.ensures,
+  λ pool name meant xml.
+      walking-next _ _ c.requires.started.along.ready _ c.requires.element pool (tree meant) (gives_prefix (nodes c.args.table.now pool) c.args.path.now name) _ _ (c.loop-at.invariant.1 pool name meant xml) c.loop-at.invariant.0 c.loop-at-test.true _ c.row_at-row.ensures _ c.link-at-in-loop-at.ensures _
+      (c.gives_prefix-is.ensures pool name meant xml) _ c.earlier-first.ensures,
+)
 
 pub returns : goal.returns
 returns c =

@@ -12,7 +12,7 @@ use Rattle.declarations.proofs.Walking.{Walking}
 use Rattle.prefixes.proofs.own_giving.Given as goal
 
 abbrev pub invariant-loop-at : goal.invariant-loop-at
-invariant-loop-at l = 
+invariant-loop-at l =
     Reached l.table l.e l.at
     × ((pool name : List ℕ) → Meant l.table pool l.notes l.wanted name → l.xml ≡ same_bytes name xml_uri → Walking l.table pool l.e (gives_prefix (nodes l.table pool) l.path name) l.at l.first)
 

@@ -9,7 +9,7 @@ use Rattle.outward.proofs.Left.{Left, prefix_lookup}
 use Rattle.prefixes.proofs.prefix_of_uri.Given as goal
 
 abbrev pub invariant-loop-left : goal.invariant-loop-left
-invariant-loop-left l =     Along l.table l.notes l.left × ((pool : List ℕ) → Meant l.table pool l.notes l.wanted l.uri → Left l.table pool l.path (prefix_lookup (nodes l.table pool) l.path l.uri) l.left)
+invariant-loop-left l = Along l.table l.notes l.left × ((pool : List ℕ) → Meant l.table pool l.notes l.wanted l.uri → Left l.table pool l.path (prefix_lookup (nodes l.table pool) l.path l.uri) l.left)
 
 abbrev pub decreases-loop-left : goal.decreases-loop-left
 decreases-loop-left l = length l.left

@@ -13,7 +13,11 @@ pass-requires c =
 
 pub returns : goal.returns
 returns c =
-    let none? : c.args.dropped ≡ 0 = omega (arith, c.if-dropped-gt0.false) in record { from_le_result = c.pass.ensures.from_le_result; counted = λ drops fates g. record {
-          going = going-passed g.going g.count none? c.pass.ensures.reached_2 c.pass.ensures.from_le_result c.pass.ensures.by_index;
-          count = passed-count g.going g.count none? c.pass.ensures.reached_2 c.pass.ensures.from_le_result c.pass.ensures.by_index;
-        }; by_index = c.pass.ensures.by_index_2 }
+    let none? : c.args.dropped ≡ 0 = omega (arith, c.if-dropped-gt0.false) in record {
+      from_le_result = c.pass.ensures.from_le_result;
+      counted = λ drops fates g. record {
+        going = going-passed g.going g.count none? c.pass.ensures.reached_2 c.pass.ensures.from_le_result c.pass.ensures.by_index;
+        count = passed-count g.going g.count none? c.pass.ensures.reached_2 c.pass.ensures.from_le_result c.pass.ensures.by_index;
+      };
+      by_index = c.pass.ensures.by_index_2;
+    }

@@ -12,5 +12,5 @@ returns-then-is_escaped c = from-escaped _ _ _ (sym c.is_escaped.ensures ∙ c.i
 pub returns : goal.returns
 returns c =
     let bare : is_escaped c.args.quoted c.args.b ≡ false =
-        elim c.if-b-lt63.branch [ then-b-lt63+else-is_escaped w ↦ sym w.is_escaped.ensures ∙ w.if-is_escaped.false | else-b-lt63 w ↦ high-bare _ _ w.if-b-lt63.false ] in
+    elim c.if-b-lt63.branch [ then-b-lt63+else-is_escaped w ↦ sym w.is_escaped.ensures ∙ w.if-is_escaped.false | else-b-lt63 w ↦ high-bare _ _ w.if-b-lt63.false ] in
     from-bare _ _ _ bare

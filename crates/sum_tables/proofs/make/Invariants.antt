@@ -7,7 +7,7 @@ use Rattle.sum_tables.specs.SumTables.{WORDS, Row}
 use Rattle.sum_tables.proofs.make.Given as goal
 
 abbrev pub invariant-loop-k : goal.invariant-loop-k
-invariant-loop-k l = 
+invariant-loop-k l =
     (64 * l.k ≤ length l.pool) × (length l.table ≡ length l.initial.table) × (WORDS ≤ length l.table) × (l.sum1 < 4294967087) × (l.sum2 < 4294967087)
     × (l.sum1 ≡ sum_from l.base1 0 (take (64 * l.k) l.pool)) × (l.sum2 ≡ sum_from l.base2 0 (take (64 * l.k) l.pool)) × ((m : ℕ) → m ≤ l.k → Row l.pool l.base1 l.base2 l.table m)
 

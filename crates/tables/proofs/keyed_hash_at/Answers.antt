@@ -15,7 +15,7 @@ returns-then-end-start-le-SHORT c =
 pub sums_of-sums-requires : goal.sums_of-sums-requires
 sums_of-sums-requires c =
     let g = c.requires.tables.0 in
-    let room = g.room in 
+    let room = g.room in
     rw (c.pair_at-bases.ensures.0, c.pair_at-bases.ensures.1, lent c.args.tables.now SUMS (omega arith)) record { filled = (g.made c.requires.tables.1).sums; in_bounds = (rw length-drop (omega arith), c.requires.start_le_end.2); start_le_end = (c.requires.start_le_end.0, c.requires.start_le_end.1) }
 
 pub returns : goal.returns

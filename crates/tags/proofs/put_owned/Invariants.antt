@@ -6,7 +6,7 @@ use Rattle.tags.proofs.Owned.{Left}
 use Rattle.tags.proofs.put_owned.Given as goal
 
 abbrev pub invariant-loop-position : goal.invariant-loop-position
-invariant-loop-position l =     (linked : Linked l.table l.links) × (row : l.element < row_count l.table) × Left l.table l.pool l.links l.element linked row l.initial.out l.at l.out l.to l.position
+invariant-loop-position l = (linked : Linked l.table l.links) × (row : l.element < row_count l.table) × Left l.table l.pool l.links l.element linked row l.initial.out l.at l.out l.to l.position
 
 abbrev pub decreases-loop-position : goal.decreases-loop-position
 decreases-loop-position l = left (row_count l.table) l.position

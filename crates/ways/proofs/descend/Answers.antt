@@ -30,16 +30,15 @@ pub loop-at-smaller : goal.loop-at-smaller
 loop-at-smaller c = omega (arith, c.climb-n.ensures.upper_bound.1, c.loop-at-test.true)
 
 pub loop-at-preserved : goal.loop-at-preserved
-loop-at-preserved c =
-    (
-      c.retreat-at.ensures.standing_2,
-      c.retreat-at.ensures.result_le_to,
-      c.climb-n.ensures.by_index c.args.to.0 c.loop-at.invariant.2,
-      c.climb-n.auto.way ∙ c.loop-at.invariant.3,
-      c.retreat-at.auto.tops ∙ c.loop-at.invariant.4,
-      c.retreat-at.auto.path ∙ c.loop-at.invariant.5,
-      λ k. c.retreat-at.ensures.untouched k ∙ c.loop-at.invariant.6 k,
-    )
+loop-at-preserved c = (
+  c.retreat-at.ensures.standing_2,
+  c.retreat-at.ensures.result_le_to,
+  c.climb-n.ensures.by_index c.args.to.0 c.loop-at.invariant.2,
+  c.climb-n.auto.way ∙ c.loop-at.invariant.3,
+  c.retreat-at.auto.tops ∙ c.loop-at.invariant.4,
+  c.retreat-at.auto.path ∙ c.loop-at.invariant.5,
+  λ k. c.retreat-at.ensures.untouched k ∙ c.loop-at.invariant.6 k,
+)
 
 pub loop-n-init : goal.loop-n-init
 loop-n-init c =
