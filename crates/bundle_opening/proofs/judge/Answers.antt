@@ -15,28 +15,51 @@ returns-then-wrong_mark c = sym (ap verdict (refused-mark _ (sym c.if-wrong_mark
 
 pub returns-then-other_version : goal.returns-then-other_version
 returns-then-other_version c =
-    sym (ap verdict (refused-version _ ((let it : false ≡ wrong_mark c.args.bundle.now = sym c.if-wrong_mark.false ∙ c.wrong_mark.ensures in it)) (sym c.if-other_version.true ∙ c.other_version.ensures)))
+    let fact : false ≡ wrong_mark c.args.bundle.now = sym c.if-wrong_mark.false ∙ c.wrong_mark.ensures in
+    sym (ap verdict (refused-version _ fact (sym c.if-other_version.true ∙ c.other_version.ensures)))
 
 pub returns-then-bad_lengths : goal.returns-then-bad_lengths
 returns-then-bad_lengths c =
-    sym (ap verdict (refused-lengths _ ((let it : false ≡ wrong_mark c.args.bundle.now = sym c.if-wrong_mark.false ∙ c.wrong_mark.ensures in it)) ((let it : false ≡ other_version c.args.bundle.now = sym c.if-other_version.false ∙ c.other_version.ensures in it)) (sym c.if-bad_lengths.true ∙ c.bad_lengths.ensures)))
+    let fact : false ≡ other_version c.args.bundle.now = sym c.if-other_version.false ∙ c.other_version.ensures in
+    let fact2 : false ≡ wrong_mark c.args.bundle.now = sym c.if-wrong_mark.false ∙ c.wrong_mark.ensures in
+    sym (ap verdict (refused-lengths _ fact2 fact (sym c.if-bad_lengths.true ∙ c.bad_lengths.ensures)))
 
 pub row_count-requires : goal.row_count-requires
 row_count-requires c =
-    ((let it : Agreed c.args.bundle.now = agreed c.args.bundle.now (sym ((let it : false ≡ bad_lengths c.args.bundle.now = sym c.if-bad_lengths.false ∙ c.bad_lengths.ensures in it))) in it)).header
+    let fact : false ≡ bad_lengths c.args.bundle.now = sym c.if-bad_lengths.false ∙ c.bad_lengths.ensures in
+    let fact2 : Agreed c.args.bundle.now = agreed c.args.bundle.now (sym fact) in
+    fact2.header
 
 pub returns-then-row_count-gt-MOST_ROWS : goal.returns-then-row_count-gt-MOST_ROWS
 returns-then-row_count-gt-MOST_ROWS c =
-    sym (ap verdict (refused-rows _ ((let it : bundle_refusal c.args.bundle.now ≡ none = is-bundle c.args.bundle.now ((let it : false ≡ wrong_mark c.args.bundle.now = sym c.if-wrong_mark.false ∙ c.wrong_mark.ensures in it)) ((let it : false ≡ other_version c.args.bundle.now = sym c.if-other_version.false ∙ c.other_version.ensures in it)) ((let it : false ≡ bad_lengths c.args.bundle.now = sym c.if-bad_lengths.false ∙ c.bad_lengths.ensures in it)) in it)) (rw (sym c.row_count.ensures.0) c.if-row_count-gt-MOST_ROWS.true)))
+    let fact : false ≡ bad_lengths c.args.bundle.now = sym c.if-bad_lengths.false ∙ c.bad_lengths.ensures in
+    let fact2 : false ≡ other_version c.args.bundle.now = sym c.if-other_version.false ∙ c.other_version.ensures in
+    let fact3 : false ≡ wrong_mark c.args.bundle.now = sym c.if-wrong_mark.false ∙ c.wrong_mark.ensures in
+    let fact4 : bundle_refusal c.args.bundle.now ≡ none = is-bundle c.args.bundle.now fact3 fact2 fact in
+    sym (ap verdict (refused-rows _ fact4 (rw (sym c.row_count.ensures.0) c.if-row_count-gt-MOST_ROWS.true)))
 
 pub pool_length-requires : goal.pool_length-requires
 pool_length-requires c =
-    ((let it : Agreed c.args.bundle.now = agreed c.args.bundle.now (sym ((let it : false ≡ bad_lengths c.args.bundle.now = sym c.if-bad_lengths.false ∙ c.bad_lengths.ensures in it))) in it)).header
+    let fact : false ≡ bad_lengths c.args.bundle.now = sym c.if-bad_lengths.false ∙ c.bad_lengths.ensures in
+    let fact2 : Agreed c.args.bundle.now = agreed c.args.bundle.now (sym fact) in
+    fact2.header
 
 pub returns-then-pool_length-gt-MOST_BYTES : goal.returns-then-pool_length-gt-MOST_BYTES
 returns-then-pool_length-gt-MOST_BYTES c =
-    sym (ap verdict (refused-bytes _ ((let it : bundle_refusal c.args.bundle.now ≡ none = is-bundle c.args.bundle.now ((let it : false ≡ wrong_mark c.args.bundle.now = sym c.if-wrong_mark.false ∙ c.wrong_mark.ensures in it)) ((let it : false ≡ other_version c.args.bundle.now = sym c.if-other_version.false ∙ c.other_version.ensures in it)) ((let it : false ≡ bad_lengths c.args.bundle.now = sym c.if-bad_lengths.false ∙ c.bad_lengths.ensures in it)) in it)) ((let it : Agreed c.args.bundle.now = agreed c.args.bundle.now (sym ((let it : false ≡ bad_lengths c.args.bundle.now = sym c.if-bad_lengths.false ∙ c.bad_lengths.ensures in it))) in it)) ((let it : bundle_rows c.args.bundle.now ≤ MOST_ROWS = rw (sym c.row_count.ensures.0) c.if-row_count-gt-MOST_ROWS.false in it)) (rw (sym c.pool_length.ensures.0) c.if-pool_length-gt-MOST_BYTES.true)))
+    let fact : bundle_rows c.args.bundle.now ≤ MOST_ROWS = rw (sym c.row_count.ensures.0) c.if-row_count-gt-MOST_ROWS.false in
+    let fact2 : false ≡ bad_lengths c.args.bundle.now = sym c.if-bad_lengths.false ∙ c.bad_lengths.ensures in
+    let fact3 : Agreed c.args.bundle.now = agreed c.args.bundle.now (sym fact2) in
+    let fact4 : false ≡ other_version c.args.bundle.now = sym c.if-other_version.false ∙ c.other_version.ensures in
+    let fact5 : false ≡ wrong_mark c.args.bundle.now = sym c.if-wrong_mark.false ∙ c.wrong_mark.ensures in
+    let fact6 : bundle_refusal c.args.bundle.now ≡ none = is-bundle c.args.bundle.now fact5 fact4 fact2 in
+    sym (ap verdict (refused-bytes _ fact6 fact3 fact (rw (sym c.pool_length.ensures.0) c.if-pool_length-gt-MOST_BYTES.true)))
 
 pub returns : goal.returns
 returns c =
-    sym (ap verdict (not-opening-refused _ ((let it : bundle_refusal c.args.bundle.now ≡ none = is-bundle c.args.bundle.now ((let it : false ≡ wrong_mark c.args.bundle.now = sym c.if-wrong_mark.false ∙ c.wrong_mark.ensures in it)) ((let it : false ≡ other_version c.args.bundle.now = sym c.if-other_version.false ∙ c.other_version.ensures in it)) ((let it : false ≡ bad_lengths c.args.bundle.now = sym c.if-bad_lengths.false ∙ c.bad_lengths.ensures in it)) in it)) ((let it : Agreed c.args.bundle.now = agreed c.args.bundle.now (sym ((let it : false ≡ bad_lengths c.args.bundle.now = sym c.if-bad_lengths.false ∙ c.bad_lengths.ensures in it))) in it)) ((let it : bundle_rows c.args.bundle.now ≤ MOST_ROWS = rw (sym c.row_count.ensures.0) c.if-row_count-gt-MOST_ROWS.false in it)) (rw (sym c.pool_length.ensures.0) c.if-pool_length-gt-MOST_BYTES.false)))
+    let fact : bundle_rows c.args.bundle.now ≤ MOST_ROWS = rw (sym c.row_count.ensures.0) c.if-row_count-gt-MOST_ROWS.false in
+    let fact2 : false ≡ bad_lengths c.args.bundle.now = sym c.if-bad_lengths.false ∙ c.bad_lengths.ensures in
+    let fact3 : Agreed c.args.bundle.now = agreed c.args.bundle.now (sym fact2) in
+    let fact4 : false ≡ other_version c.args.bundle.now = sym c.if-other_version.false ∙ c.other_version.ensures in
+    let fact5 : false ≡ wrong_mark c.args.bundle.now = sym c.if-wrong_mark.false ∙ c.wrong_mark.ensures in
+    let fact6 : bundle_refusal c.args.bundle.now ≡ none = is-bundle c.args.bundle.now fact5 fact4 fact2 in
+    sym (ap verdict (not-opening-refused _ fact6 fact3 fact (rw (sym c.pool_length.ensures.0) c.if-pool_length-gt-MOST_BYTES.false)))

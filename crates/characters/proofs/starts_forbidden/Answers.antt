@@ -12,12 +12,15 @@ returns-then-is_control c = sym (starts-control c.args.value.now c.args.i c.requ
 
 pub returns-then-value-i : goal.returns-then-value-i
 returns-then-value-i c =
-    sym (starts_other c.args.value.now c.args.i c.requires ((let it : is_control (get_or c.args.value.now c.args.i 0) ≡ false = sym c.is_control.ensures ∙ c.if-is_control.false in it)) c.if-value-i.true)
+    let fact : is_control (get_or c.args.value.now c.args.i 0) ≡ false = sym c.is_control.ensures ∙ c.if-is_control.false in
+    sym (starts_other c.args.value.now c.args.i c.requires fact c.if-value-i.true)
 
 pub returns-then-value-i-lt3 : goal.returns-then-value-i-lt3
 returns-then-value-i-lt3 c =
-    sym (starts-cut c.args.value.now c.args.i c.requires ((let it : is_control (get_or c.args.value.now c.args.i 0) ≡ false = sym c.is_control.ensures ∙ c.if-is_control.false in it)) (omega arith))
+    let fact : is_control (get_or c.args.value.now c.args.i 0) ≡ false = sym c.is_control.ensures ∙ c.if-is_control.false in
+    sym (starts-cut c.args.value.now c.args.i c.requires fact (omega arith))
 
 pub returns : goal.returns
 returns c =
-    sym (starts-whole c.args.value.now c.args.i c.requires ((let it : is_control (get_or c.args.value.now c.args.i 0) ≡ false = sym c.is_control.ensures ∙ c.if-is_control.false in it)) c.if-value-i.false (omega arith))
+    let fact : is_control (get_or c.args.value.now c.args.i 0) ≡ false = sym c.is_control.ensures ∙ c.if-is_control.false in
+    sym (starts-whole c.args.value.now c.args.i c.requires fact c.if-value-i.false (omega arith))

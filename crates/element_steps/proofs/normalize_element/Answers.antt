@@ -29,22 +29,25 @@ row_at-row-requires c = (both_hold 0 c.loop-position.position c.loop-position.ro
 
 pub repair_attribute-made-requires : goal.repair_attribute-made-requires
 repair_attribute-made-requires c =
+    let fact : Begun c.requires.0 c.repair_element-rows.new.table c.args.pool.now c.repair_element-rows.new.notes c.repair_element-rows.new.tops c.repair_element-rows.new.path c.repair_element-rows.result c.args.sizes.bytes c.args.sizes.names c.args.sizes.limit c.args.element.0 c.requires.1.state = begins c.requires.1 c.repair_element-rows.auto.notes (c.repair_element-rows.ensures _ _ _ (row-element-asks c.requires.1)) in
     let test = both_hold _ _ _ _ c.loop-position-test.true in
-    let standing = c.loop-position.invariant.stands _ _ ((let it : Begun c.requires.0 c.repair_element-rows.new.table c.args.pool.now c.repair_element-rows.new.notes c.repair_element-rows.new.tops c.repair_element-rows.new.path c.repair_element-rows.result c.args.sizes.bytes c.args.sizes.names c.args.sizes.limit c.args.element.0 c.requires.1.state = begins c.requires.1 c.repair_element-rows.auto.notes (c.repair_element-rows.ensures _ _ _ (row-element-asks c.requires.1)) in it)) in record { at_attribute = walk-attribute ((let it : Begun c.requires.0 c.repair_element-rows.new.table c.args.pool.now c.repair_element-rows.new.notes c.repair_element-rows.new.tops c.repair_element-rows.new.path c.repair_element-rows.result c.args.sizes.bytes c.args.sizes.names c.args.sizes.limit c.args.element.0 c.requires.1.state = begins c.requires.1 c.repair_element-rows.auto.notes (c.repair_element-rows.ensures _ _ _ (row-element-asks c.requires.1)) in it)) standing test.0 test.1 c.row_at-row.ensures; bytes_in_bounds = walk-room ((let it : Begun c.requires.0 c.repair_element-rows.new.table c.args.pool.now c.repair_element-rows.new.notes c.repair_element-rows.new.tops c.repair_element-rows.new.path c.repair_element-rows.result c.args.sizes.bytes c.args.sizes.names c.args.sizes.limit c.args.element.0 c.requires.1.state = begins c.requires.1 c.repair_element-rows.auto.notes (c.repair_element-rows.ensures _ _ _ (row-element-asks c.requires.1)) in it)) standing test.0 test.1 c.row_at-row.ensures c.loop-position.invariant.pool_length }
+    let standing = c.loop-position.invariant.stands _ _ fact in record { at_attribute = walk-attribute fact standing test.0 test.1 c.row_at-row.ensures; bytes_in_bounds = walk-room fact standing test.0 test.1 c.row_at-row.ensures c.loop-position.invariant.pool_length }
 
 pub link-position-requires-in-loop-position : goal.link-position-requires-in-loop-position
 link-position-requires-in-loop-position c =
+    let fact : Begun c.requires.0 c.repair_element-rows.new.table c.args.pool.now c.repair_element-rows.new.notes c.repair_element-rows.new.tops c.repair_element-rows.new.path c.repair_element-rows.result c.args.sizes.bytes c.args.sizes.names c.args.sizes.limit c.args.element.0 c.requires.1.state = begins c.requires.1 c.repair_element-rows.auto.notes (c.repair_element-rows.ensures _ _ _ (row-element-asks c.requires.1)) in
     let test = both_hold _ _ _ _ c.loop-position-test.true in
-    let standing = c.loop-position.invariant.stands _ _ ((let it : Begun c.requires.0 c.repair_element-rows.new.table c.args.pool.now c.repair_element-rows.new.notes c.repair_element-rows.new.tops c.repair_element-rows.new.path c.repair_element-rows.result c.args.sizes.bytes c.args.sizes.names c.args.sizes.limit c.args.element.0 c.requires.1.state = begins c.requires.1 c.repair_element-rows.auto.notes (c.repair_element-rows.ensures _ _ _ (row-element-asks c.requires.1)) in it)) in
-    walk-noted ((let it : Begun c.requires.0 c.repair_element-rows.new.table c.args.pool.now c.repair_element-rows.new.notes c.repair_element-rows.new.tops c.repair_element-rows.new.path c.repair_element-rows.result c.args.sizes.bytes c.args.sizes.names c.args.sizes.limit c.args.element.0 c.requires.1.state = begins c.requires.1 c.repair_element-rows.auto.notes (c.repair_element-rows.ensures _ _ _ (row-element-asks c.requires.1)) in it)) standing test.0 test.1 c.row_at-row.ensures c.repair_attribute-made.new.notes (c.repair_attribute-made.auto.notes ∙ c.loop-position.invariant.notes_length)
+    let standing = c.loop-position.invariant.stands _ _ fact in
+    walk-noted fact standing test.0 test.1 c.row_at-row.ensures c.repair_attribute-made.new.notes (c.repair_attribute-made.auto.notes ∙ c.loop-position.invariant.notes_length)
 
 pub loop-position-smaller : goal.loop-position-smaller
 unfolding note_at
 loop-position-smaller c =
+    let fact : Begun c.requires.0 c.repair_element-rows.new.table c.args.pool.now c.repair_element-rows.new.notes c.repair_element-rows.new.tops c.repair_element-rows.new.path c.repair_element-rows.result c.args.sizes.bytes c.args.sizes.names c.args.sizes.limit c.args.element.0 c.requires.1.state = begins c.requires.1 c.repair_element-rows.auto.notes (c.repair_element-rows.ensures _ _ _ (row-element-asks c.requires.1)) in
     let test = both_hold _ _ _ _ c.loop-position-test.true in
-    let standing = c.loop-position.invariant.stands _ _ ((let it : Begun c.requires.0 c.repair_element-rows.new.table c.args.pool.now c.repair_element-rows.new.notes c.repair_element-rows.new.tops c.repair_element-rows.new.path c.repair_element-rows.result c.args.sizes.bytes c.args.sizes.names c.args.sizes.limit c.args.element.0 c.requires.1.state = begins c.requires.1 c.repair_element-rows.auto.notes (c.repair_element-rows.ensures _ _ _ (row-element-asks c.requires.1)) in it)) in
-    let asked = walk-attribute ((let it : Begun c.requires.0 c.repair_element-rows.new.table c.args.pool.now c.repair_element-rows.new.notes c.repair_element-rows.new.tops c.repair_element-rows.new.path c.repair_element-rows.result c.args.sizes.bytes c.args.sizes.names c.args.sizes.limit c.args.element.0 c.requires.1.state = begins c.requires.1 c.repair_element-rows.auto.notes (c.repair_element-rows.ensures _ _ _ (row-element-asks c.requires.1)) in it)) standing test.0 test.1 c.row_at-row.ensures in
-    walk-falls ((let it : Begun c.requires.0 c.repair_element-rows.new.table c.args.pool.now c.repair_element-rows.new.notes c.repair_element-rows.new.tops c.repair_element-rows.new.path c.repair_element-rows.result c.args.sizes.bytes c.args.sizes.names c.args.sizes.limit c.args.element.0 c.requires.1.state = begins c.requires.1 c.repair_element-rows.auto.notes (c.repair_element-rows.ensures _ _ _ (row-element-asks c.requires.1)) in it)) standing test.0 test.1 c.row_at-row.ensures c.loop-position.invariant.small c.repair_attribute-made.new.notes (c.repair_attribute-made.ensures asked).after.attributes
+    let standing = c.loop-position.invariant.stands _ _ fact in
+    let asked = walk-attribute fact standing test.0 test.1 c.row_at-row.ensures in
+    walk-falls fact standing test.0 test.1 c.row_at-row.ensures c.loop-position.invariant.small c.repair_attribute-made.new.notes (c.repair_attribute-made.ensures asked).after.attributes
     (omega (arith, c.slice_known-in-loop-position-3-1.given (8 * c.row_at-row.result.0 + 7), c.link-position-in-loop-position.ensures)) c.link-position-in-loop-position.ensures
 
 pub loop-position-preserved : goal.loop-position-preserved

@@ -12,43 +12,53 @@ loop-r-init c = pass-start c.requires
 
 pub overflow_cast-row : goal.overflow_cast-row
 overflow_cast-row c =
-    record { fits = omega (arith, (pass-small c.requires c.loop-r.invariant ((let it : (c.loop-r.r < c.args.sizes.rows) × (c.loop-r.rows ≤ c.args.sizes.limit) = both_hold _ _ _ _ c.loop-r-test.true in it)).0 ((let it : (c.loop-r.r < c.args.sizes.rows) × (c.loop-r.rows ≤ c.args.sizes.limit) = both_hold _ _ _ _ c.loop-r-test.true in it)).1).0) }
+    let going : (c.loop-r.r < c.args.sizes.rows) × (c.loop-r.rows ≤ c.args.sizes.limit) = both_hold _ _ _ _ c.loop-r-test.true in
+    record { fits = omega (arith, (pass-small c.requires c.loop-r.invariant going.0 going.1).0) }
 
 pub overflow_mul-words : goal.overflow_mul-words
 overflow_mul-words c =
-    record { fits = omega (arith, (pass-small c.requires c.loop-r.invariant ((let it : (c.loop-r.r < c.args.sizes.rows) × (c.loop-r.rows ≤ c.args.sizes.limit) = both_hold _ _ _ _ c.loop-r-test.true in it)).0 ((let it : (c.loop-r.r < c.args.sizes.rows) × (c.loop-r.rows ≤ c.args.sizes.limit) = both_hold _ _ _ _ c.loop-r-test.true in it)).1).1) }
+    let going : (c.loop-r.r < c.args.sizes.rows) × (c.loop-r.rows ≤ c.args.sizes.limit) = both_hold _ _ _ _ c.loop-r-test.true in
+    record { fits = omega (arith, (pass-small c.requires c.loop-r.invariant going.0 going.1).1) }
 
 pub slice_bounds-words-end : goal.slice_bounds-words-end
 slice_bounds-words-end c =
-    pass-table c.requires c.loop-r.invariant ((let it : (c.loop-r.r < c.args.sizes.rows) × (c.loop-r.rows ≤ c.args.sizes.limit) = both_hold _ _ _ _ c.loop-r-test.true in it)).0 ((let it : (c.loop-r.r < c.args.sizes.rows) × (c.loop-r.rows ≤ c.args.sizes.limit) = both_hold _ _ _ _ c.loop-r-test.true in it)).1
+    let going : (c.loop-r.r < c.args.sizes.rows) × (c.loop-r.rows ≤ c.args.sizes.limit) = both_hold _ _ _ _ c.loop-r-test.true in
+    pass-table c.requires c.loop-r.invariant going.0 going.1
 
 pub slice_bounds-words-end-in-loop-r : goal.slice_bounds-words-end-in-loop-r
 slice_bounds-words-end-in-loop-r c =
-    sym (length-take-le _ _ (pass-table c.requires c.loop-r.invariant ((let it : (c.loop-r.r < c.args.sizes.rows) × (c.loop-r.rows ≤ c.args.sizes.limit) = both_hold _ _ _ _ c.loop-r-test.true in it)).0 ((let it : (c.loop-r.r < c.args.sizes.rows) × (c.loop-r.rows ≤ c.args.sizes.limit) = both_hold _ _ _ _ c.loop-r-test.true in it)).1))
+    let going : (c.loop-r.r < c.args.sizes.rows) × (c.loop-r.rows ≤ c.args.sizes.limit) = both_hold _ _ _ _ c.loop-r-test.true in
+    sym (length-take-le _ _ (pass-table c.requires c.loop-r.invariant going.0 going.1))
 
 pub kind-requires : goal.kind-requires
 kind-requires c =
-    pass-within c.requires c.loop-r.invariant ((let it : (c.loop-r.r < c.args.sizes.rows) × (c.loop-r.rows ≤ c.args.sizes.limit) = both_hold _ _ _ _ c.loop-r-test.true in it)).0 ((let it : (c.loop-r.r < c.args.sizes.rows) × (c.loop-r.rows ≤ c.args.sizes.limit) = both_hold _ _ _ _ c.loop-r-test.true in it)).1
+    let going : (c.loop-r.r < c.args.sizes.rows) × (c.loop-r.rows ≤ c.args.sizes.limit) = both_hold _ _ _ _ c.loop-r-test.true in
+    pass-within c.requires c.loop-r.invariant going.0 going.1
 
 pub position_of-to-requires : goal.position_of-to-requires
 position_of-to-requires c =
-    omega (arith, (pass-small c.requires c.loop-r.invariant ((let it : (c.loop-r.r < c.args.sizes.rows) × (c.loop-r.rows ≤ c.args.sizes.limit) = both_hold _ _ _ _ c.loop-r-test.true in it)).0 ((let it : (c.loop-r.r < c.args.sizes.rows) × (c.loop-r.rows ≤ c.args.sizes.limit) = both_hold _ _ _ _ c.loop-r-test.true in it)).1).0)
+    let going : (c.loop-r.r < c.args.sizes.rows) × (c.loop-r.rows ≤ c.args.sizes.limit) = both_hold _ _ _ _ c.loop-r-test.true in
+    omega (arith, (pass-small c.requires c.loop-r.invariant going.0 going.1).0)
 
 pub forward-requires : goal.forward-requires
 forward-requires c =
-    let all = pass-go c.requires c.loop-r.invariant ((let it : (c.loop-r.r < c.args.sizes.rows) × (c.loop-r.rows ≤ c.args.sizes.limit) = both_hold _ _ _ _ c.loop-r-test.true in it)).0 ((let it : (c.loop-r.r < c.args.sizes.rows) × (c.loop-r.rows ≤ c.args.sizes.limit) = both_hold _ _ _ _ c.loop-r-test.true in it)).1 c.position_of-to.ensures in record { ready = all.0; from_lt_to = all.1.0; standing = all.1.1 }
+    let going : (c.loop-r.r < c.args.sizes.rows) × (c.loop-r.rows ≤ c.args.sizes.limit) = both_hold _ _ _ _ c.loop-r-test.true in
+    let all = pass-go c.requires c.loop-r.invariant going.0 going.1 c.position_of-to.ensures in record { ready = all.0; from_lt_to = all.1.0; standing = all.1.1 }
 
 pub normalize_element-made-requires : goal.normalize_element-made-requires
 normalize_element-made-requires c =
-    (_, pass-element c.requires c.loop-r.invariant ((let it : (c.loop-r.r < c.args.sizes.rows) × (c.loop-r.rows ≤ c.args.sizes.limit) = both_hold _ _ _ _ c.loop-r-test.true in it)).0 ((let it : (c.loop-r.r < c.args.sizes.rows) × (c.loop-r.rows ≤ c.args.sizes.limit) = both_hold _ _ _ _ c.loop-r-test.true in it)).1 c.kind.ensures c.if-kind-eq-ELEMENT.true c.position_of-to.ensures c.forward.auto.tops c.forward.auto.path c.forward.ensures.untouched c.forward.ensures.standing_2)
+    let going : (c.loop-r.r < c.args.sizes.rows) × (c.loop-r.rows ≤ c.args.sizes.limit) = both_hold _ _ _ _ c.loop-r-test.true in
+    (_, pass-element c.requires c.loop-r.invariant going.0 going.1 c.kind.ensures c.if-kind-eq-ELEMENT.true c.position_of-to.ensures c.forward.auto.tops c.forward.auto.path c.forward.ensures.untouched c.forward.ensures.standing_2)
 
 pub overflow_add-r : goal.overflow_add-r
 overflow_add-r c =
-    record { fits = omega (arith, (pass-small c.requires c.loop-r.invariant ((let it : (c.loop-r.r < c.args.sizes.rows) × (c.loop-r.rows ≤ c.args.sizes.limit) = both_hold _ _ _ _ c.loop-r-test.true in it)).0 ((let it : (c.loop-r.r < c.args.sizes.rows) × (c.loop-r.rows ≤ c.args.sizes.limit) = both_hold _ _ _ _ c.loop-r-test.true in it)).1).0) }
+    let going : (c.loop-r.r < c.args.sizes.rows) × (c.loop-r.rows ≤ c.args.sizes.limit) = both_hold _ _ _ _ c.loop-r-test.true in
+    record { fits = omega (arith, (pass-small c.requires c.loop-r.invariant going.0 going.1).0) }
 
 pub loop-r-smaller : goal.loop-r-smaller
 loop-r-smaller c =
-    omega (arith, (let it : (c.loop-r.r < c.args.sizes.rows) × (c.loop-r.rows ≤ c.args.sizes.limit) = both_hold _ _ _ _ c.loop-r-test.true in it))
+    let going : (c.loop-r.r < c.args.sizes.rows) × (c.loop-r.rows ≤ c.args.sizes.limit) = both_hold _ _ _ _ c.loop-r-test.true in
+    omega (arith, going)
 
 pub loop-r-preserved : goal.loop-r-preserved
 loop-r-preserved c =

@@ -12,23 +12,32 @@ use Rattle.finishing.proofs.finish.Goals as goal
 
 pub clear_words-requires : goal.clear_words-requires
 clear_words-requires c =
-    ((let it : (WIDTH * c.args.rows ≤ length c.args.out_table.now) × (c.args.bytes ≤ length c.args.work.now) = c.requires (enough-rows _ _ _ _ ((let it : verdict (room_lack c.args.limit (length c.args.out_pool.now) c.args.rows c.args.bytes) ≡ Checked.Accepted = sym c.room.ensures ∙ c.in-Accepted.is in it))) in it)).0
+    let fact : verdict (room_lack c.args.limit (length c.args.out_pool.now) c.args.rows c.args.bytes) ≡ Checked.Accepted = sym c.room.ensures ∙ c.in-Accepted.is in
+    let fact2 : (WIDTH * c.args.rows ≤ length c.args.out_table.now) × (c.args.bytes ≤ length c.args.work.now) = c.requires (enough-rows _ _ _ _ fact) in
+    fact2.0
 
 pub slice_bounds-copy_bytes-end : goal.slice_bounds-copy_bytes-end
 slice_bounds-copy_bytes-end c =
-    sym (length-take-le _ _ ((let it : (WIDTH * c.args.rows ≤ length c.args.out_table.now) × (c.args.bytes ≤ length c.args.work.now) = c.requires (enough-rows _ _ _ _ ((let it : verdict (room_lack c.args.limit (length c.args.out_pool.now) c.args.rows c.args.bytes) ≡ Checked.Accepted = sym c.room.ensures ∙ c.in-Accepted.is in it))) in it)).1)
+    let fact : verdict (room_lack c.args.limit (length c.args.out_pool.now) c.args.rows c.args.bytes) ≡ Checked.Accepted = sym c.room.ensures ∙ c.in-Accepted.is in
+    let fact2 : (WIDTH * c.args.rows ≤ length c.args.out_table.now) × (c.args.bytes ≤ length c.args.work.now) = c.requires (enough-rows _ _ _ _ fact) in
+    sym (length-take-le _ _ fact2.1)
 
 pub copy_bytes-requires : goal.copy_bytes-requires
 copy_bytes-requires c =
-    rw (length-take-le _ _ ((let it : (WIDTH * c.args.rows ≤ length c.args.out_table.now) × (c.args.bytes ≤ length c.args.work.now) = c.requires (enough-rows _ _ _ _ ((let it : verdict (room_lack c.args.limit (length c.args.out_pool.now) c.args.rows c.args.bytes) ≡ Checked.Accepted = sym c.room.ensures ∙ c.in-Accepted.is in it))) in it)).1) (enough-bytes _ _ _ _ ((let it : verdict (room_lack c.args.limit (length c.args.out_pool.now) c.args.rows c.args.bytes) ≡ Checked.Accepted = sym c.room.ensures ∙ c.in-Accepted.is in it)))
+    let fact : verdict (room_lack c.args.limit (length c.args.out_pool.now) c.args.rows c.args.bytes) ≡ Checked.Accepted = sym c.room.ensures ∙ c.in-Accepted.is in
+    let fact2 : (WIDTH * c.args.rows ≤ length c.args.out_table.now) × (c.args.bytes ≤ length c.args.work.now) = c.requires (enough-rows _ _ _ _ fact) in
+    rw (length-take-le _ _ fact2.1) (enough-bytes _ _ _ _ fact)
 
 pub clear_bytes-requires : goal.clear_bytes-requires
 clear_bytes-requires c =
-    rw c.copy_bytes.auto.pool (enough-bytes _ _ _ _ ((let it : verdict (room_lack c.args.limit (length c.args.out_pool.now) c.args.rows c.args.bytes) ≡ Checked.Accepted = sym c.room.ensures ∙ c.in-Accepted.is in it)))
+    let fact : verdict (room_lack c.args.limit (length c.args.out_pool.now) c.args.rows c.args.bytes) ≡ Checked.Accepted = sym c.room.ensures ∙ c.in-Accepted.is in
+    rw c.copy_bytes.auto.pool (enough-bytes _ _ _ _ fact)
 
 pub returns-in-Accepted : goal.returns-in-Accepted
 returns-in-Accepted c =
-    let all = ended-done _ _ _ _ _ _ ((let it : verdict (room_lack c.args.limit (length c.args.out_pool.now) c.args.rows c.args.bytes) ≡ Checked.Accepted = sym c.room.ensures ∙ c.in-Accepted.is in it)) ((let it : (WIDTH * c.args.rows ≤ length c.args.out_table.now) × (c.args.bytes ≤ length c.args.work.now) = c.requires (enough-rows _ _ _ _ ((let it : verdict (room_lack c.args.limit (length c.args.out_pool.now) c.args.rows c.args.bytes) ≡ Checked.Accepted = sym c.room.ensures ∙ c.in-Accepted.is in it))) in it)).0 ((let it : (WIDTH * c.args.rows ≤ length c.args.out_table.now) × (c.args.bytes ≤ length c.args.work.now) = c.requires (enough-rows _ _ _ _ ((let it : verdict (room_lack c.args.limit (length c.args.out_pool.now) c.args.rows c.args.bytes) ≡ Checked.Accepted = sym c.room.ensures ∙ c.in-Accepted.is in it))) in it)).1 c.args.out_pool.now refl
+    let fact : verdict (room_lack c.args.limit (length c.args.out_pool.now) c.args.rows c.args.bytes) ≡ Checked.Accepted = sym c.room.ensures ∙ c.in-Accepted.is in
+    let fact2 : (WIDTH * c.args.rows ≤ length c.args.out_table.now) × (c.args.bytes ≤ length c.args.work.now) = c.requires (enough-rows _ _ _ _ fact) in
+    let all = ended-done _ _ _ _ _ _ fact fact2.0 fact2.1 c.args.out_pool.now refl
     c.clear_words.ensures c.copy_bytes.ensures c.clear_bytes.ensures in record { value = all.0; out_table_after = all.1.0; out_pool_after = all.1.1 }
 
 pub returns-in-Refused : goal.returns-in-Refused

@@ -7,20 +7,23 @@ use Rattle.keyed.proofs.push_two.Goals as goal
 
 pub overflow_mul-result : goal.overflow_mul-result
 overflow_mul-result c =
-    let p = square-product c.args.h c.args.square c.requires.h_bound.0 ((let it : c.args.square < PRIME = rw c.requires.h_bound.1 (pushed-lt c.args.base c.args.base 0) in it)) in omega arith
+    let fact : c.args.square < PRIME = rw c.requires.h_bound.1 (pushed-lt c.args.base c.args.base 0) in
+    let p = square-product c.args.h c.args.square c.requires.h_bound.0 fact in omega arith
 
 pub overflow_mul-result-2 : goal.overflow_mul-result-2
 overflow_mul-result-2 c = let q = term-product c.args.first c.args.base c.requires.first_bound.0 (omega arith) in omega arith
 
 pub overflow_add-result : goal.overflow_add-result
 overflow_add-result c =
-    let p = square-product c.args.h c.args.square c.requires.h_bound.0 ((let it : c.args.square < PRIME = rw c.requires.h_bound.1 (pushed-lt c.args.base c.args.base 0) in it)) in
+    let fact : c.args.square < PRIME = rw c.requires.h_bound.1 (pushed-lt c.args.base c.args.base 0) in
+    let p = square-product c.args.h c.args.square c.requires.h_bound.0 fact in
     let q = term-product c.args.first c.args.base c.requires.first_bound.0 (omega arith) in
     omega arith
 
 pub overflow_add-result-2 : goal.overflow_add-result-2
 overflow_add-result-2 c =
-    let p = square-product c.args.h c.args.square c.requires.h_bound.0 ((let it : c.args.square < PRIME = rw c.requires.h_bound.1 (pushed-lt c.args.base c.args.base 0) in it)) in
+    let fact : c.args.square < PRIME = rw c.requires.h_bound.1 (pushed-lt c.args.base c.args.base 0) in
+    let p = square-product c.args.h c.args.square c.requires.h_bound.0 fact in
     let q = term-product c.args.first c.args.base c.requires.first_bound.0 (omega arith) in
     omega arith
 

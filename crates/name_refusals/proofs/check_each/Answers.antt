@@ -11,12 +11,17 @@ returns-in_default c =
 
 pub returns-then-bad : goal.returns-then-bad
 returns-then-bad c =
-    refused-names c.args.row.0 ((node_at c.args.table.now c.args.pool.now c.args.row.0)) c.check-drawn.ensures c.in-Accepted.is (sym ((let it : c.bad.result ≡ bad_names ((node_at c.args.table.now c.args.pool.now c.args.row.0)) = c.bad.ensures ((node_at c.args.table.now c.args.pool.now c.args.row.0)) c.args.row.0 c.kind-row_type.ensures c.requires.kinds_value (passed-encoding c.args.row.0 ((node_at c.args.table.now c.args.pool.now c.args.row.0)) c.check-drawn.ensures c.in-Accepted.is) in it)) ∙ c.if-bad.true)
+    let fact : c.bad.result ≡ bad_names ((node_at c.args.table.now c.args.pool.now c.args.row.0)) = c.bad.ensures ((node_at c.args.table.now c.args.pool.now c.args.row.0)) c.args.row.0 c.kind-row_type.ensures c.requires.kinds_value (passed-encoding c.args.row.0 ((node_at c.args.table.now c.args.pool.now c.args.row.0)) c.check-drawn.ensures c.in-Accepted.is) in
+    refused-names c.args.row.0 ((node_at c.args.table.now c.args.pool.now c.args.row.0)) c.check-drawn.ensures c.in-Accepted.is (sym fact ∙ c.if-bad.true)
 
 pub returns-then-bad-2 : goal.returns-then-bad-2
 returns-then-bad-2 c =
-    refused-namespace c.args.row.0 ((node_at c.args.table.now c.args.pool.now c.args.row.0)) c.check-drawn.ensures c.in-Accepted.is (sym ((let it : c.bad.result ≡ bad_names ((node_at c.args.table.now c.args.pool.now c.args.row.0)) = c.bad.ensures ((node_at c.args.table.now c.args.pool.now c.args.row.0)) c.args.row.0 c.kind-row_type.ensures c.requires.kinds_value (passed-encoding c.args.row.0 ((node_at c.args.table.now c.args.pool.now c.args.row.0)) c.check-drawn.ensures c.in-Accepted.is) in it)) ∙ c.if-bad.false) (sym ((let it : c.bad-2.result ≡ bad_namespace ((node_at c.args.table.now c.args.pool.now c.args.row.0)) = c.bad-2.ensures ((node_at c.args.table.now c.args.pool.now c.args.row.0)) c.kind-row_type.ensures c.requires.kinds_value in it)) ∙ c.if-bad-2.true)
+    let fact : c.bad-2.result ≡ bad_namespace ((node_at c.args.table.now c.args.pool.now c.args.row.0)) = c.bad-2.ensures ((node_at c.args.table.now c.args.pool.now c.args.row.0)) c.kind-row_type.ensures c.requires.kinds_value in
+    let fact2 : c.bad.result ≡ bad_names ((node_at c.args.table.now c.args.pool.now c.args.row.0)) = c.bad.ensures ((node_at c.args.table.now c.args.pool.now c.args.row.0)) c.args.row.0 c.kind-row_type.ensures c.requires.kinds_value (passed-encoding c.args.row.0 ((node_at c.args.table.now c.args.pool.now c.args.row.0)) c.check-drawn.ensures c.in-Accepted.is) in
+    refused-namespace c.args.row.0 ((node_at c.args.table.now c.args.pool.now c.args.row.0)) c.check-drawn.ensures c.in-Accepted.is (sym fact2 ∙ c.if-bad.false) (sym fact ∙ c.if-bad-2.true)
 
 pub returns : goal.returns
 returns c =
-    refused_none c.args.row.0 ((node_at c.args.table.now c.args.pool.now c.args.row.0)) c.check-drawn.ensures c.in-Accepted.is (sym ((let it : c.bad.result ≡ bad_names ((node_at c.args.table.now c.args.pool.now c.args.row.0)) = c.bad.ensures ((node_at c.args.table.now c.args.pool.now c.args.row.0)) c.args.row.0 c.kind-row_type.ensures c.requires.kinds_value (passed-encoding c.args.row.0 ((node_at c.args.table.now c.args.pool.now c.args.row.0)) c.check-drawn.ensures c.in-Accepted.is) in it)) ∙ c.if-bad.false) (sym ((let it : c.bad-2.result ≡ bad_namespace ((node_at c.args.table.now c.args.pool.now c.args.row.0)) = c.bad-2.ensures ((node_at c.args.table.now c.args.pool.now c.args.row.0)) c.kind-row_type.ensures c.requires.kinds_value in it)) ∙ c.if-bad-2.false)
+    let fact : c.bad-2.result ≡ bad_namespace ((node_at c.args.table.now c.args.pool.now c.args.row.0)) = c.bad-2.ensures ((node_at c.args.table.now c.args.pool.now c.args.row.0)) c.kind-row_type.ensures c.requires.kinds_value in
+    let fact2 : c.bad.result ≡ bad_names ((node_at c.args.table.now c.args.pool.now c.args.row.0)) = c.bad.ensures ((node_at c.args.table.now c.args.pool.now c.args.row.0)) c.args.row.0 c.kind-row_type.ensures c.requires.kinds_value (passed-encoding c.args.row.0 ((node_at c.args.table.now c.args.pool.now c.args.row.0)) c.check-drawn.ensures c.in-Accepted.is) in
+    refused_none c.args.row.0 ((node_at c.args.table.now c.args.pool.now c.args.row.0)) c.check-drawn.ensures c.in-Accepted.is (sym fact2 ∙ c.if-bad.false) (sym fact ∙ c.if-bad-2.false)

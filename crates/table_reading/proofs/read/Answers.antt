@@ -7,26 +7,31 @@ use Rattle.table_reading.proofs.read.Goals as goal
 
 pub copy_words-requires : goal.copy_words-requires
 copy_words-requires c =
-    ((let it : Fits c.args.table.now c.args.pool.now (length c.args.out_table.now) (length c.args.out_pool.now) = fits _ _ _ _ (sym c.judge_read.ensures ∙ c.in-Accepted.is) in it)).words
+    let fact : Fits c.args.table.now c.args.pool.now (length c.args.out_table.now) (length c.args.out_pool.now) = fits _ _ _ _ (sym c.judge_read.ensures ∙ c.in-Accepted.is) in
+    fact.words
 
 pub clear_words-requires : goal.clear_words-requires
 clear_words-requires c =
-    let whole = ((let it : Fits c.args.table.now c.args.pool.now (length c.args.out_table.now) (length c.args.out_pool.now) = fits _ _ _ _ (sym c.judge_read.ensures ∙ c.in-Accepted.is) in it)).whole in
-    let room = ((let it : Fits c.args.table.now c.args.pool.now (length c.args.out_table.now) (length c.args.out_pool.now) = fits _ _ _ _ (sym c.judge_read.ensures ∙ c.in-Accepted.is) in it)).words in
+    let fact : Fits c.args.table.now c.args.pool.now (length c.args.out_table.now) (length c.args.out_pool.now) = fits _ _ _ _ (sym c.judge_read.ensures ∙ c.in-Accepted.is) in
+    let whole = fact.whole in
+    let room = fact.words in
     let long = c.copy_words.auto.table in
     omega arith
 
 pub copy_bytes-requires : goal.copy_bytes-requires
 copy_bytes-requires c =
-    ((let it : Fits c.args.table.now c.args.pool.now (length c.args.out_table.now) (length c.args.out_pool.now) = fits _ _ _ _ (sym c.judge_read.ensures ∙ c.in-Accepted.is) in it)).bytes
+    let fact : Fits c.args.table.now c.args.pool.now (length c.args.out_table.now) (length c.args.out_pool.now) = fits _ _ _ _ (sym c.judge_read.ensures ∙ c.in-Accepted.is) in
+    fact.bytes
 
 pub clear_bytes-requires : goal.clear_bytes-requires
 clear_bytes-requires c =
-    rw c.copy_bytes.auto.pool ((let it : Fits c.args.table.now c.args.pool.now (length c.args.out_table.now) (length c.args.out_pool.now) = fits _ _ _ _ (sym c.judge_read.ensures ∙ c.in-Accepted.is) in it)).bytes
+    let fact : Fits c.args.table.now c.args.pool.now (length c.args.out_table.now) (length c.args.out_pool.now) = fits _ _ _ _ (sym c.judge_read.ensures ∙ c.in-Accepted.is) in
+    rw c.copy_bytes.auto.pool fact.bytes
 
 pub returns-in-Accepted : goal.returns-in-Accepted
 returns-in-Accepted c =
-    let all = read_done _ _ _ _ ((let it : Fits c.args.table.now c.args.pool.now (length c.args.out_table.now) (length c.args.out_pool.now) = fits _ _ _ _ (sym c.judge_read.ensures ∙ c.in-Accepted.is) in it)) c.row_count-rows.result c.row_count-rows.ensures c.copy_words.ensures c.clear_words.ensures c.copy_bytes.ensures c.clear_bytes.ensures in record { value = all.0; out_table_after = all.1.0; out_pool_after = all.1.1 }
+    let fact : Fits c.args.table.now c.args.pool.now (length c.args.out_table.now) (length c.args.out_pool.now) = fits _ _ _ _ (sym c.judge_read.ensures ∙ c.in-Accepted.is) in
+    let all = read_done _ _ _ _ fact c.row_count-rows.result c.row_count-rows.ensures c.copy_words.ensures c.clear_words.ensures c.copy_bytes.ensures c.clear_bytes.ensures in record { value = all.0; out_table_after = all.1.0; out_pool_after = all.1.1 }
 
 pub returns-in-Refused : goal.returns-in-Refused
 returns-in-Refused c =

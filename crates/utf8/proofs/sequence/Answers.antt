@@ -21,27 +21,39 @@ returns-then-bytes-i c =
 
 pub returns-then-not-is_between : goal.returns-then-not-is_between
 returns-then-not-is_between c =
-    second-out c.args.bytes.now c.args.i c.requires c.line_of-line.result c.line_of-line.ensures.0 ((let it : 2 ≤ c.line_of-line.result.length = omega arith in it)) ((let it : c.line_of-line.result.length ≤ length c.args.bytes.now - c.args.i = omega arith in it)) (sym c.is_between.ensures ∙ c.if-not-is_between.true)
+    let fact : c.line_of-line.result.length ≤ length c.args.bytes.now - c.args.i = omega arith in
+    let fact2 : 2 ≤ c.line_of-line.result.length = omega arith in
+    second-out c.args.bytes.now c.args.i c.requires c.line_of-line.result c.line_of-line.ensures.0 fact2 fact (sym c.is_between.ensures ∙ c.if-not-is_between.true)
 
 pub returns-then-length-eq2 : goal.returns-then-length-eq2
 returns-then-length-eq2 c =
-    tails_end c.args.bytes.now c.args.i c.requires c.line_of-line.result.length 2 ((let it : c.line_of-line.result.length ≤ length c.args.bytes.now - c.args.i = omega arith in it)) ((second-read c.args.bytes.now c.args.i c.requires c.line_of-line.result c.line_of-line.ensures.0 ((let it : 2 ≤ c.line_of-line.result.length = omega arith in it)) ((let it : c.line_of-line.result.length ≤ length c.args.bytes.now - c.args.i = omega arith in it)) (sym c.is_between.ensures ∙ c.if-not-is_between.false))) (omega arith) c.if-length-eq2.true
+    let fact : c.line_of-line.result.length ≤ length c.args.bytes.now - c.args.i = omega arith in
+    let fact2 : 2 ≤ c.line_of-line.result.length = omega arith in
+    tails_end c.args.bytes.now c.args.i c.requires c.line_of-line.result.length 2 fact ((second-read c.args.bytes.now c.args.i c.requires c.line_of-line.result c.line_of-line.ensures.0 fact2 fact (sym c.is_between.ensures ∙ c.if-not-is_between.false))) (omega arith) c.if-length-eq2.true
 
 pub returns-then-not-is_between-2 : goal.returns-then-not-is_between-2
 returns-then-not-is_between-2 c =
-    tail-out c.args.bytes.now c.args.i c.requires c.line_of-line.result.length 2 ((let it : c.line_of-line.result.length ≤ length c.args.bytes.now - c.args.i = omega arith in it)) ((second-read c.args.bytes.now c.args.i c.requires c.line_of-line.result c.line_of-line.ensures.0 ((let it : 2 ≤ c.line_of-line.result.length = omega arith in it)) ((let it : c.line_of-line.result.length ≤ length c.args.bytes.now - c.args.i = omega arith in it)) (sym c.is_between.ensures ∙ c.if-not-is_between.false))) (omega arith) (sym c.is_between-2.ensures ∙ c.if-not-is_between-2.true)
+    let fact : c.line_of-line.result.length ≤ length c.args.bytes.now - c.args.i = omega arith in
+    let fact2 : 2 ≤ c.line_of-line.result.length = omega arith in
+    tail-out c.args.bytes.now c.args.i c.requires c.line_of-line.result.length 2 fact ((second-read c.args.bytes.now c.args.i c.requires c.line_of-line.result c.line_of-line.ensures.0 fact2 fact (sym c.is_between.ensures ∙ c.if-not-is_between.false))) (omega arith) (sym c.is_between-2.ensures ∙ c.if-not-is_between-2.true)
 
 pub returns-then-length-eq3 : goal.returns-then-length-eq3
 returns-then-length-eq3 c =
-    tails_end c.args.bytes.now c.args.i c.requires c.line_of-line.result.length 3 ((let it : c.line_of-line.result.length ≤ length c.args.bytes.now - c.args.i = omega arith in it)) ((tail-read c.args.bytes.now c.args.i c.requires c.line_of-line.result.length 2 ((let it : c.line_of-line.result.length ≤ length c.args.bytes.now - c.args.i = omega arith in it)) ((second-read c.args.bytes.now c.args.i c.requires c.line_of-line.result c.line_of-line.ensures.0 ((let it : 2 ≤ c.line_of-line.result.length = omega arith in it)) ((let it : c.line_of-line.result.length ≤ length c.args.bytes.now - c.args.i = omega arith in it)) (sym c.is_between.ensures ∙ c.if-not-is_between.false))) ((above c.line_of-line.result.length 2 ((let it : 2 ≤ c.line_of-line.result.length = omega arith in it)) c.if-length-eq2.false)) (sym c.is_between-2.ensures ∙ c.if-not-is_between-2.false))) (omega arith) c.if-length-eq3.true
+    let fact : 2 ≤ c.line_of-line.result.length = omega arith in
+    let fact2 : c.line_of-line.result.length ≤ length c.args.bytes.now - c.args.i = omega arith in
+    tails_end c.args.bytes.now c.args.i c.requires c.line_of-line.result.length 3 fact2 ((tail-read c.args.bytes.now c.args.i c.requires c.line_of-line.result.length 2 fact2 ((second-read c.args.bytes.now c.args.i c.requires c.line_of-line.result c.line_of-line.ensures.0 fact fact2 (sym c.is_between.ensures ∙ c.if-not-is_between.false))) ((above c.line_of-line.result.length 2 fact c.if-length-eq2.false)) (sym c.is_between-2.ensures ∙ c.if-not-is_between-2.false))) (omega arith) c.if-length-eq3.true
 
 pub returns-then-not-is_between-3 : goal.returns-then-not-is_between-3
 returns-then-not-is_between-3 c =
-    tail-out c.args.bytes.now c.args.i c.requires c.line_of-line.result.length 3 ((let it : c.line_of-line.result.length ≤ length c.args.bytes.now - c.args.i = omega arith in it)) ((tail-read c.args.bytes.now c.args.i c.requires c.line_of-line.result.length 2 ((let it : c.line_of-line.result.length ≤ length c.args.bytes.now - c.args.i = omega arith in it)) ((second-read c.args.bytes.now c.args.i c.requires c.line_of-line.result c.line_of-line.ensures.0 ((let it : 2 ≤ c.line_of-line.result.length = omega arith in it)) ((let it : c.line_of-line.result.length ≤ length c.args.bytes.now - c.args.i = omega arith in it)) (sym c.is_between.ensures ∙ c.if-not-is_between.false))) ((above c.line_of-line.result.length 2 ((let it : 2 ≤ c.line_of-line.result.length = omega arith in it)) c.if-length-eq2.false)) (sym c.is_between-2.ensures ∙ c.if-not-is_between-2.false))) ((above c.line_of-line.result.length 3 ((above c.line_of-line.result.length 2 ((let it : 2 ≤ c.line_of-line.result.length = omega arith in it)) c.if-length-eq2.false)) c.if-length-eq3.false)) (sym c.is_between-3.ensures ∙ c.if-not-is_between-3.true)
+    let fact : 2 ≤ c.line_of-line.result.length = omega arith in
+    let fact2 : c.line_of-line.result.length ≤ length c.args.bytes.now - c.args.i = omega arith in
+    tail-out c.args.bytes.now c.args.i c.requires c.line_of-line.result.length 3 fact2 ((tail-read c.args.bytes.now c.args.i c.requires c.line_of-line.result.length 2 fact2 ((second-read c.args.bytes.now c.args.i c.requires c.line_of-line.result c.line_of-line.ensures.0 fact fact2 (sym c.is_between.ensures ∙ c.if-not-is_between.false))) ((above c.line_of-line.result.length 2 fact c.if-length-eq2.false)) (sym c.is_between-2.ensures ∙ c.if-not-is_between-2.false))) ((above c.line_of-line.result.length 3 ((above c.line_of-line.result.length 2 fact c.if-length-eq2.false)) c.if-length-eq3.false)) (sym c.is_between-3.ensures ∙ c.if-not-is_between-3.true)
 
 pub returns : goal.returns
 returns c =
+    let fact : 2 ≤ c.line_of-line.result.length = omega arith in
+    let fact2 : c.line_of-line.result.length ≤ length c.args.bytes.now - c.args.i = omega arith in
     let fourth =
-    tail-read c.args.bytes.now c.args.i c.requires c.line_of-line.result.length 3 ((let it : c.line_of-line.result.length ≤ length c.args.bytes.now - c.args.i = omega arith in it)) ((tail-read c.args.bytes.now c.args.i c.requires c.line_of-line.result.length 2 ((let it : c.line_of-line.result.length ≤ length c.args.bytes.now - c.args.i = omega arith in it)) ((second-read c.args.bytes.now c.args.i c.requires c.line_of-line.result c.line_of-line.ensures.0 ((let it : 2 ≤ c.line_of-line.result.length = omega arith in it)) ((let it : c.line_of-line.result.length ≤ length c.args.bytes.now - c.args.i = omega arith in it)) (sym c.is_between.ensures ∙ c.if-not-is_between.false))) ((above c.line_of-line.result.length 2 ((let it : 2 ≤ c.line_of-line.result.length = omega arith in it)) c.if-length-eq2.false)) (sym c.is_between-2.ensures ∙ c.if-not-is_between-2.false))) ((above c.line_of-line.result.length 3 ((above c.line_of-line.result.length 2 ((let it : 2 ≤ c.line_of-line.result.length = omega arith in it)) c.if-length-eq2.false)) c.if-length-eq3.false)) (sym c.is_between-3.ensures ∙ c.if-not-is_between-3.false)
+    tail-read c.args.bytes.now c.args.i c.requires c.line_of-line.result.length 3 fact2 ((tail-read c.args.bytes.now c.args.i c.requires c.line_of-line.result.length 2 fact2 ((second-read c.args.bytes.now c.args.i c.requires c.line_of-line.result c.line_of-line.ensures.0 fact fact2 (sym c.is_between.ensures ∙ c.if-not-is_between.false))) ((above c.line_of-line.result.length 2 fact c.if-length-eq2.false)) (sym c.is_between-2.ensures ∙ c.if-not-is_between-2.false))) ((above c.line_of-line.result.length 3 ((above c.line_of-line.result.length 2 fact c.if-length-eq2.false)) c.if-length-eq3.false)) (sym c.is_between-3.ensures ∙ c.if-not-is_between-3.false)
     in
-    tails_end c.args.bytes.now c.args.i c.requires c.line_of-line.result.length 4 ((let it : c.line_of-line.result.length ≤ length c.args.bytes.now - c.args.i = omega arith in it)) fourth (omega arith) (le_antisymm c.line_of-line.ensures.1 ((above c.line_of-line.result.length 3 ((above c.line_of-line.result.length 2 ((let it : 2 ≤ c.line_of-line.result.length = omega arith in it)) c.if-length-eq2.false)) c.if-length-eq3.false)))
+    tails_end c.args.bytes.now c.args.i c.requires c.line_of-line.result.length 4 fact2 fourth (omega arith) (le_antisymm c.line_of-line.ensures.1 ((above c.line_of-line.result.length 3 ((above c.line_of-line.result.length 2 fact c.if-length-eq2.false)) c.if-length-eq3.false)))

@@ -8,17 +8,26 @@ pub loop-sum-init : goal.loop-sum-init
 loop-sum-init c = (omega arith, omega arith)
 
 pub length_at-sum-requires : goal.length_at-sum-requires
-length_at-sum-requires c = (let it : c.loop-sum.r < row_count c.args.table.now = ltb-true _ _ (cc) in it)
+length_at-sum-requires c =
+    let fact : c.loop-sum.r < row_count c.args.table.now = ltb-true _ _ (cc) in
+    fact
 
 pub overflow_add-sum : goal.overflow_add-sum
-overflow_add-sum c = omega (arith, (let it : c.loop-sum.r < row_count c.args.table.now = ltb-true _ _ (cc) in it), c.requires)
+overflow_add-sum c =
+    let fact : c.loop-sum.r < row_count c.args.table.now = ltb-true _ _ (cc) in
+    omega (arith, fact, c.requires)
 
 pub overflow_add-r : goal.overflow_add-r
-overflow_add-r c = omega (arith, (let it : c.loop-sum.r < row_count c.args.table.now = ltb-true _ _ (cc) in it), c.requires)
+overflow_add-r c =
+    let fact : c.loop-sum.r < row_count c.args.table.now = ltb-true _ _ (cc) in
+    omega (arith, fact, c.requires)
 
 pub loop-sum-smaller : goal.loop-sum-smaller
-loop-sum-smaller c = omega (arith, (let it : c.loop-sum.r < row_count c.args.table.now = ltb-true _ _ (cc) in it))
+loop-sum-smaller c =
+    let fact : c.loop-sum.r < row_count c.args.table.now = ltb-true _ _ (cc) in
+    omega (arith, fact)
 
 pub loop-sum-preserved : goal.loop-sum-preserved
 loop-sum-preserved c =
-    let in_table = (let it : c.loop-sum.r < row_count c.args.table.now = ltb-true _ _ (cc) in it) in (omega arith, omega arith)
+    let fact : c.loop-sum.r < row_count c.args.table.now = ltb-true _ _ (cc) in
+    let in_table = fact in (omega arith, omega arith)

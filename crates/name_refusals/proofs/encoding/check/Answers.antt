@@ -13,16 +13,25 @@ returns-then-kinds-eq-MALFORMED c =
 
 pub returns-then-kinds-eq-MALFORMED-2 : goal.returns-then-kinds-eq-MALFORMED-2
 returns-then-kinds-eq-MALFORMED-2 c =
-    c.malformed-then-kinds-eq-MALFORMED-2.ensures ∙ encoding-local c.args.row.0 ((node_at c.args.table.now c.args.pool.now c.args.row.0)) ((let it : well_formed ((node_at c.args.table.now c.args.pool.now c.args.row.0)).prefix.bytes ≡ true = is-well-formed ((node_at c.args.table.now c.args.pool.now c.args.row.0)).prefix.bytes (kind-prefix ((node_at c.args.table.now c.args.pool.now c.args.row.0)) c.requires.kinds_value) c.if-kinds-eq-MALFORMED.false in it)) (is-malformed ((node_at c.args.table.now c.args.pool.now c.args.row.0)).local.bytes (kind-local ((node_at c.args.table.now c.args.pool.now c.args.row.0)) c.requires.kinds_value) c.if-kinds-eq-MALFORMED-2.true)
+    let fact : well_formed ((node_at c.args.table.now c.args.pool.now c.args.row.0)).prefix.bytes ≡ true = is-well-formed ((node_at c.args.table.now c.args.pool.now c.args.row.0)).prefix.bytes (kind-prefix ((node_at c.args.table.now c.args.pool.now c.args.row.0)) c.requires.kinds_value) c.if-kinds-eq-MALFORMED.false in
+    c.malformed-then-kinds-eq-MALFORMED-2.ensures ∙ encoding-local c.args.row.0 ((node_at c.args.table.now c.args.pool.now c.args.row.0)) fact (is-malformed ((node_at c.args.table.now c.args.pool.now c.args.row.0)).local.bytes (kind-local ((node_at c.args.table.now c.args.pool.now c.args.row.0)) c.requires.kinds_value) c.if-kinds-eq-MALFORMED-2.true)
 
 pub returns-then-kinds-eq-MALFORMED-3 : goal.returns-then-kinds-eq-MALFORMED-3
 returns-then-kinds-eq-MALFORMED-3 c =
-    c.malformed-then-kinds-eq-MALFORMED-3.ensures ∙ encoding-uri c.args.row.0 ((node_at c.args.table.now c.args.pool.now c.args.row.0)) ((let it : well_formed ((node_at c.args.table.now c.args.pool.now c.args.row.0)).prefix.bytes ≡ true = is-well-formed ((node_at c.args.table.now c.args.pool.now c.args.row.0)).prefix.bytes (kind-prefix ((node_at c.args.table.now c.args.pool.now c.args.row.0)) c.requires.kinds_value) c.if-kinds-eq-MALFORMED.false in it)) ((let it : well_formed ((node_at c.args.table.now c.args.pool.now c.args.row.0)).local.bytes ≡ true = is-well-formed ((node_at c.args.table.now c.args.pool.now c.args.row.0)).local.bytes (kind-local ((node_at c.args.table.now c.args.pool.now c.args.row.0)) c.requires.kinds_value) c.if-kinds-eq-MALFORMED-2.false in it)) (is-malformed ((node_at c.args.table.now c.args.pool.now c.args.row.0)).uri.bytes (kind-uri ((node_at c.args.table.now c.args.pool.now c.args.row.0)) c.requires.kinds_value) c.if-kinds-eq-MALFORMED-3.true)
+    let fact : well_formed ((node_at c.args.table.now c.args.pool.now c.args.row.0)).local.bytes ≡ true = is-well-formed ((node_at c.args.table.now c.args.pool.now c.args.row.0)).local.bytes (kind-local ((node_at c.args.table.now c.args.pool.now c.args.row.0)) c.requires.kinds_value) c.if-kinds-eq-MALFORMED-2.false in
+    let fact2 : well_formed ((node_at c.args.table.now c.args.pool.now c.args.row.0)).prefix.bytes ≡ true = is-well-formed ((node_at c.args.table.now c.args.pool.now c.args.row.0)).prefix.bytes (kind-prefix ((node_at c.args.table.now c.args.pool.now c.args.row.0)) c.requires.kinds_value) c.if-kinds-eq-MALFORMED.false in
+    c.malformed-then-kinds-eq-MALFORMED-3.ensures ∙ encoding-uri c.args.row.0 ((node_at c.args.table.now c.args.pool.now c.args.row.0)) fact2 fact (is-malformed ((node_at c.args.table.now c.args.pool.now c.args.row.0)).uri.bytes (kind-uri ((node_at c.args.table.now c.args.pool.now c.args.row.0)) c.requires.kinds_value) c.if-kinds-eq-MALFORMED-3.true)
 
 pub returns-then-not-formed : goal.returns-then-not-formed
 returns-then-not-formed c =
-    c.malformed-then-not-formed.ensures ∙ encoding-value c.args.row.0 ((node_at c.args.table.now c.args.pool.now c.args.row.0)) ((let it : well_formed ((node_at c.args.table.now c.args.pool.now c.args.row.0)).prefix.bytes ≡ true = is-well-formed ((node_at c.args.table.now c.args.pool.now c.args.row.0)).prefix.bytes (kind-prefix ((node_at c.args.table.now c.args.pool.now c.args.row.0)) c.requires.kinds_value) c.if-kinds-eq-MALFORMED.false in it)) ((let it : well_formed ((node_at c.args.table.now c.args.pool.now c.args.row.0)).local.bytes ≡ true = is-well-formed ((node_at c.args.table.now c.args.pool.now c.args.row.0)).local.bytes (kind-local ((node_at c.args.table.now c.args.pool.now c.args.row.0)) c.requires.kinds_value) c.if-kinds-eq-MALFORMED-2.false in it)) ((let it : well_formed ((node_at c.args.table.now c.args.pool.now c.args.row.0)).uri.bytes ≡ true = is-well-formed ((node_at c.args.table.now c.args.pool.now c.args.row.0)).uri.bytes (kind-uri ((node_at c.args.table.now c.args.pool.now c.args.row.0)) c.requires.kinds_value) c.if-kinds-eq-MALFORMED-3.false in it)) (ap not c.requires.formed_value) c.if-not-formed.true-raw
+    let fact : well_formed ((node_at c.args.table.now c.args.pool.now c.args.row.0)).uri.bytes ≡ true = is-well-formed ((node_at c.args.table.now c.args.pool.now c.args.row.0)).uri.bytes (kind-uri ((node_at c.args.table.now c.args.pool.now c.args.row.0)) c.requires.kinds_value) c.if-kinds-eq-MALFORMED-3.false in
+    let fact2 : well_formed ((node_at c.args.table.now c.args.pool.now c.args.row.0)).local.bytes ≡ true = is-well-formed ((node_at c.args.table.now c.args.pool.now c.args.row.0)).local.bytes (kind-local ((node_at c.args.table.now c.args.pool.now c.args.row.0)) c.requires.kinds_value) c.if-kinds-eq-MALFORMED-2.false in
+    let fact3 : well_formed ((node_at c.args.table.now c.args.pool.now c.args.row.0)).prefix.bytes ≡ true = is-well-formed ((node_at c.args.table.now c.args.pool.now c.args.row.0)).prefix.bytes (kind-prefix ((node_at c.args.table.now c.args.pool.now c.args.row.0)) c.requires.kinds_value) c.if-kinds-eq-MALFORMED.false in
+    c.malformed-then-not-formed.ensures ∙ encoding-value c.args.row.0 ((node_at c.args.table.now c.args.pool.now c.args.row.0)) fact3 fact2 fact (ap not c.requires.formed_value) c.if-not-formed.true-raw
 
 pub returns : goal.returns
 returns c =
-    encoding-passed c.args.row.0 ((node_at c.args.table.now c.args.pool.now c.args.row.0)) ((let it : well_formed ((node_at c.args.table.now c.args.pool.now c.args.row.0)).prefix.bytes ≡ true = is-well-formed ((node_at c.args.table.now c.args.pool.now c.args.row.0)).prefix.bytes (kind-prefix ((node_at c.args.table.now c.args.pool.now c.args.row.0)) c.requires.kinds_value) c.if-kinds-eq-MALFORMED.false in it)) ((let it : well_formed ((node_at c.args.table.now c.args.pool.now c.args.row.0)).local.bytes ≡ true = is-well-formed ((node_at c.args.table.now c.args.pool.now c.args.row.0)).local.bytes (kind-local ((node_at c.args.table.now c.args.pool.now c.args.row.0)) c.requires.kinds_value) c.if-kinds-eq-MALFORMED-2.false in it)) ((let it : well_formed ((node_at c.args.table.now c.args.pool.now c.args.row.0)).uri.bytes ≡ true = is-well-formed ((node_at c.args.table.now c.args.pool.now c.args.row.0)).uri.bytes (kind-uri ((node_at c.args.table.now c.args.pool.now c.args.row.0)) c.requires.kinds_value) c.if-kinds-eq-MALFORMED-3.false in it)) (ap not c.requires.formed_value) c.if-not-formed.false-raw
+    let fact : well_formed ((node_at c.args.table.now c.args.pool.now c.args.row.0)).uri.bytes ≡ true = is-well-formed ((node_at c.args.table.now c.args.pool.now c.args.row.0)).uri.bytes (kind-uri ((node_at c.args.table.now c.args.pool.now c.args.row.0)) c.requires.kinds_value) c.if-kinds-eq-MALFORMED-3.false in
+    let fact2 : well_formed ((node_at c.args.table.now c.args.pool.now c.args.row.0)).local.bytes ≡ true = is-well-formed ((node_at c.args.table.now c.args.pool.now c.args.row.0)).local.bytes (kind-local ((node_at c.args.table.now c.args.pool.now c.args.row.0)) c.requires.kinds_value) c.if-kinds-eq-MALFORMED-2.false in
+    let fact3 : well_formed ((node_at c.args.table.now c.args.pool.now c.args.row.0)).prefix.bytes ≡ true = is-well-formed ((node_at c.args.table.now c.args.pool.now c.args.row.0)).prefix.bytes (kind-prefix ((node_at c.args.table.now c.args.pool.now c.args.row.0)) c.requires.kinds_value) c.if-kinds-eq-MALFORMED.false in
+    encoding-passed c.args.row.0 ((node_at c.args.table.now c.args.pool.now c.args.row.0)) fact3 fact2 fact (ap not c.requires.formed_value) c.if-not-formed.false-raw

@@ -22,43 +22,39 @@ returns-then-parent-row c =
 
 pub has_bit-requires : goal.has_bit-requires
 has_bit-requires c =
+    let fact : (c.kind-kind.result ≤ DECLARATION) × (c.kind-above.result < DOCUMENT) = let kind = c.kind-kind.result in
+    let above = c.kind-above.result in
+    let both = both_true (leb kind DECLARATION) (ltb above DOCUMENT) c.if-kind-above.true in
+    (leb-true kind DECLARATION both.0, ltb-true above DOCUMENT both.1) in
     record {
       right = c.requires.right;
       line_bound = (
         omega (
           arith,
-          ((let it : (c.kind-kind.result ≤ DECLARATION) × (c.kind-above.result < DOCUMENT) = let kind = c.kind-kind.result in
-              let above = c.kind-above.result in
-              let both = both_true (leb kind DECLARATION) (ltb above DOCUMENT) c.if-kind-above.true in
-              (leb-true kind DECLARATION both.0, ltb-true above DOCUMENT both.1) in it)).0,
+          fact.0,
         ),
         omega (
           arith,
-          ((let it : (c.kind-kind.result ≤ DECLARATION) × (c.kind-above.result < DOCUMENT) = let kind = c.kind-kind.result in
-              let above = c.kind-above.result in
-              let both = both_true (leb kind DECLARATION) (ltb above DOCUMENT) c.if-kind-above.true in
-              (leb-true kind DECLARATION both.0, ltb-true above DOCUMENT both.1) in it)).1,
+          fact.1,
         ),
       );
     }
 
 pub returns-then-kind-above : goal.returns-then-kind-above
 returns-then-kind-above c =
+    let fact : (c.kind-kind.result ≤ DECLARATION) × (c.kind-above.result < DOCUMENT) = let kind = c.kind-kind.result in
+    let above = c.kind-above.result in
+    let both = both_true (leb kind DECLARATION) (ltb above DOCUMENT) c.if-kind-above.true in
+    (leb-true kind DECLARATION both.0, ltb-true above DOCUMENT both.1) in
     let above = c.kind-above.result in
     λ pool.
     structure-told c.args.table.now pool c.args.row.0 c.requires.row_bound.0 c.kind-kind.ensures c.parent-parent.ensures c.if-parent.false (omega arith) c.kind-above.ensures
     (c.has_bit.ensures ∙ ap (rule_allows (parent_rule c.kind-kind.result)) (sym (line_low above (omega (
       arith,
-      ((let it : (c.kind-kind.result ≤ DECLARATION) × (c.kind-above.result < DOCUMENT) = let kind = c.kind-kind.result in
-          let above = c.kind-above.result in
-          let both = both_true (leb kind DECLARATION) (ltb above DOCUMENT) c.if-kind-above.true in
-          (leb-true kind DECLARATION both.0, ltb-true above DOCUMENT both.1) in it)).1,
+      fact.1,
     ))))) (λ e. omega (
       arith,
-      ((let it : (c.kind-kind.result ≤ DECLARATION) × (c.kind-above.result < DOCUMENT) = let kind = c.kind-kind.result in
-          let above = c.kind-above.result in
-          let both = both_true (leb kind DECLARATION) (ltb above DOCUMENT) c.if-kind-above.true in
-          (leb-true kind DECLARATION both.0, ltb-true above DOCUMENT both.1) in it)).1,
+      fact.1,
     ))
 
 pub allows-requires-2 : goal.allows-requires-2

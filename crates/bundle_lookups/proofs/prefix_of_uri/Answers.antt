@@ -1,0 +1,8 @@
+-- `bundle_lookups::prefix_of_uri` meets its contract.
+use mathlib.Core.Path.{ap, ◌∙◌}
+use Rattle.rules.specs.Lookups.{without_built_ins}
+use Rattle.bundles.proofs.Over.{prefix-over}
+use Rattle.bundle_lookups.proofs.prefix_of_uri.Goals as goal
+
+pub returns : goal.returns
+returns c = c.without_built_ins.ensures ∙ ap without_built_ins c.lookup.ensures ∙ prefix-over _ _ _
