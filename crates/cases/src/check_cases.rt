@@ -1,10 +1,11 @@
 // The check. A line gives the case's name and nothing more.
 use crate::parts::part;
 use crate::texts;
+use std::io;
 
-pub fn case(line: &[u8], table: &[u32], pool: &[u8]) {
-    io::write_all(1, part(line, 1));
+pub fn case(rt: &impl Print, line: &[u8], table: &[u32], pool: &[u8]) -> io::Result<()> {
+    rt.write_all(part(line, 1))?;
     let given = answers::check_number(checker::check(table, pool));
-    texts::refusal(texts::REFUSAL, texts::ROW, texts::WORD, given);
-    texts::write(texts::LINE);
+    texts::refusal(rt, texts::REFUSAL, texts::ROW, texts::WORD, given)?;
+    texts::write(rt, texts::LINE)
 }

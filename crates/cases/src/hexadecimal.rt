@@ -24,11 +24,11 @@ pub fn read(text: &[u8], out: &mut [u8]) -> usize
 fn digit(b: u8) -> u8
     ensures { result < 16 }
 {
-    let decimal = std::num::wrapping_sub_u8(b, b'0');
+    let decimal = b.wrapping_sub(b'0');
     if decimal < 10 {
         return decimal;
     }
-    let letter = std::num::wrapping_sub_u8(b, b'A');
+    let letter = b.wrapping_sub(b'A');
     if letter < 6 {
         return letter + 10;
     }

@@ -5,6 +5,7 @@ use crate::parts::{part, piece};
 use crate::texts::quote;
 use crate::{texts, words};
 use rules::Row;
+use std::io;
 
 // The part of a line that is the first row to ask.
 const FIRST_ROW: usize = 5;
@@ -26,33 +27,36 @@ pub fn has_rows(line: &[u8]) -> bool {
 }
 
 // The five lookups from each row.
-pub fn case(line: &[u8], table: &[u32], pool: &[u8]) {
+pub fn case(rt: &impl Print, line: &[u8], table: &[u32], pool: &[u8]) -> io::Result<()> {
     let mut number: usize = FIRST_ROW;
     while number < line.len() {
         let name = part(line, number);
         if name.len() == 0 {
-            return;
+            return Ok(());
         }
-        io::write_all(1, name);
-        lookups(table, pool, numbered(name), line);
+        rt.write_all(name)?;
+        lookups(rt, table, pool, numbered(name), line)?;
         number += 1;
     }
+    Ok(())
 }
 
 // The parts of the pool that the first two lookups find from a row.
-pub fn part_case(line: &[u8], table: &[u32], pool: &[u8]) {
+pub fn part_case(rt: &impl Print, line: &[u8], table: &[u32], pool: &[u8]) -> io::Result<()> {
     let name = part(line, FIRST_ROW);
     let row = numbered(name);
-    io::write_all(1, name);
+    rt.write_all(name)?;
     quote(
+        rt,
         texts::URI_PART,
         lookups::uri_part(table, pool, row, part(line, 1)),
-    );
+    )?;
     quote(
+        rt,
         texts::PREFIX_PART,
         lookups::prefix_part(table, pool, row, part(line, 2)),
-    );
-    texts::write(texts::PART_END);
+    )?;
+    texts::write(rt, texts::PART_END)
 }
 
 // The row whose number a name starts with.
@@ -60,32 +64,46 @@ fn numbered(name: &[u8]) -> Row {
     Row(words::number(piece(name, 0, b' ')))
 }
 
-fn lookups(table: &[u32], pool: &[u8], row: Row, line: &[u8]) {
+fn lookups(rt: &impl Print, table: &[u32], pool: &[u8], row: Row, line: &[u8]) -> io::Result<()> {
     let prefix = part(line, 1);
     let uri = part(line, 2);
-    by_names(table, pool, row, prefix, uri);
-    default(table, pool, row, uri);
-    by_declarations(table, pool, row, prefix, uri);
-    texts::write(texts::LINE);
+    by_names(rt, table, pool, row, prefix, uri)?;
+    default(rt, table, pool, row, uri)?;
+    by_declarations(rt, table, pool, row, prefix, uri)?;
+    texts::write(rt, texts::LINE)
 }
 
 // The lookups that see elements' own names.
-fn by_names(table: &[u32], pool: &[u8], row: Row, prefix: &[u8], uri: &[u8]) {
+fn by_names(
+    rt: &impl Print,
+    table: &[u32],
+    pool: &[u8],
+    row: Row,
+    prefix: &[u8],
+    uri: &[u8],
+) -> io::Result<()> {
     let of_prefix = answers::bound(lookups::uri_of_prefix(table, pool, row, prefix));
-    found(texts::URI, of_prefix, texts::NOTHING);
+    found(rt, texts::URI, of_prefix, texts::NOTHING)?;
     let of_uri = answers::located(lookups::prefix_of_uri(table, pool, row, uri));
-    found(texts::PREFIX, of_uri, texts::NOTHING);
+    found(rt, texts::PREFIX, of_uri, texts::NOTHING)
 }
 
-fn by_declarations(table: &[u32], pool: &[u8], row: Row, prefix: &[u8], uri: &[u8]) {
+fn by_declarations(
+    rt: &impl Print,
+    table: &[u32],
+    pool: &[u8],
+    row: Row,
+    prefix: &[u8],
+    uri: &[u8],
+) -> io::Result<()> {
     let of_prefix = answers::bound(lookups::in_scope_uri(table, pool, row, prefix));
-    found(texts::IN_SCOPE_URI, of_prefix, texts::NONE);
+    found(rt, texts::IN_SCOPE_URI, of_prefix, texts::NONE)?;
     let of_uri = answers::bound(lookups::in_scope_prefix(table, pool, row, uri));
-    found(texts::PREFIX, of_uri, texts::NONE);
+    found(rt, texts::PREFIX, of_uri, texts::NONE)
 }
 
 // The default URI is asked for, and compared with the one that is given.
-fn default(table: &[u32], pool: &[u8], row: Row, uri: &[u8]) {
+fn default(rt: &impl Print, table: &[u32], pool: &[u8], row: Row, uri: &[u8]) -> io::Result<()> {
     let default_uri = answers::located(lookups::default_uri(table, pool, row));
-    compared(pool, default_uri, uri);
+    compared(rt, pool, default_uri, uri)
 }

@@ -15,46 +15,49 @@ mod parts;
 mod texts;
 mod words;
 
-use bytes::scan::find;
+use parts::find;
 
 const OPERATIONS: usize = 4;
 
 const NORMALIZE: usize = 3;
 
-fn main() {
-    let mut space = io::large_buffer();
-    let count = io::read_full(0, &mut space);
-    each_line(&space[..count]);
+// So many bytes of the standard input count; what follows them does not.
+const MOST_INPUT: usize = 65536;
+
+fn main(rt: HostRuntime) -> io::Result<()> {
+    let mut text = Vec::new(rt.alloc());
+    rt.stdin().read_to_end(&mut text)?;
+    let count = text.len().min(MOST_INPUT);
+    each_line(&rt, &text[..count])
 }
 
-fn each_line(text: &[u8]) {
+fn each_line(rt: &impl Print, text: &[u8]) -> io::Result<()> {
     let mut from: usize = 0;
     while from < text.len() {
-        let to = find(text, from, text.len(), b'\n');
-        case(&text[from..to]);
+        let to = find(text, from, b'\n');
+        case(rt, &text[from..to])?;
         from = to + 1;
     }
+    Ok(())
 }
 
-fn case(line: &[u8]) {
+fn case(rt: &impl Print, line: &[u8]) -> io::Result<()> {
     let number = operation(parts::part(line, 0));
     if number == OPERATIONS {
-        other(line);
-        return;
+        return other(rt, line);
     }
     if !has_numbers(line, number) {
-        io::write_all(1, line);
-        texts::write(texts::TOO_LARGE);
-        return;
+        rt.write_all(line)?;
+        return texts::write(rt, texts::TOO_LARGE);
     }
-    read(line);
+    read(rt, line)
 }
 
 // A title, or an operation that there is not.
-fn other(line: &[u8]) {
-    io::write_all(1, line);
-    let is_title = find(line, 0, line.len(), b'|') == line.len();
-    texts::either(is_title, texts::LINE, texts::NO_OPERATION);
+fn other(rt: &impl Print, line: &[u8]) -> io::Result<()> {
+    rt.write_all(line)?;
+    let is_title = find(line, 0, b'|') == line.len();
+    texts::either(rt, is_title, texts::LINE, texts::NO_OPERATION)
 }
 
 // The numbers of a line can all be read: those of the room, which a normalization has, of the table, of the pool and of the
@@ -69,29 +72,28 @@ fn has_numbers(line: &[u8], operation: usize) -> bool {
     table & parts::has_size(parts::part(line, 4)) & lookup_cases::has_rows(line)
 }
 
-fn read(line: &[u8]) {
+fn read(rt: &impl Print, line: &[u8]) -> io::Result<()> {
     let mut words: [u32; words::MOST] = [0; words::MOST];
     let count = words::read(parts::part(line, 3), &mut words);
-    with_table(line, &words[..count]);
+    with_table(rt, line, &words[..count])
 }
 
-fn with_table(line: &[u8], table: &[u32]) {
+fn with_table(rt: &impl Print, line: &[u8], table: &[u32]) -> io::Result<()> {
     let mut plenty: [u8; parts::MOST] = [b'a'; parts::MOST];
     let written = parts::part(line, 4);
     if !parts::is_hexadecimal(written) {
-        run(line, table, parts::pool(written, &plenty));
-        return;
+        return run(rt, line, table, parts::pool(written, &plenty));
     }
     let count = hexadecimal::read(parts::between(written, 1, written.len()), &mut plenty);
-    run(line, table, &plenty[..count]);
+    run(rt, line, table, &plenty[..count])
 }
 
-fn run(line: &[u8], table: &[u32], pool: &[u8]) {
+fn run(rt: &impl Print, line: &[u8], table: &[u32], pool: &[u8]) -> io::Result<()> {
     match operation(parts::part(line, 0)) {
-        0 => check_cases::case(line, table, pool),
-        1 => lookup_cases::case(line, table, pool),
-        2 => lookup_cases::part_case(line, table, pool),
-        _ => normalize_cases::case(line, table, pool),
+        0 => check_cases::case(rt, line, table, pool),
+        1 => lookup_cases::case(rt, line, table, pool),
+        2 => lookup_cases::part_case(rt, line, table, pool),
+        _ => normalize_cases::case(rt, line, table, pool),
     }
 }
 

@@ -5,9 +5,11 @@ ghost use Rattle.rules.specs.Table.{WIDTH, MOST_ROWS};
 use crate::parts::between;
 use crate::texts;
 use crate::texts::{either, say};
+use std::io;
 
 // A result of so many rows and bytes, or a refusal of that number.
 pub fn normalized(
+    rt: &impl Print,
     table: &[u32],
     pool: &[u8],
     out_table: &[u32],
@@ -15,50 +17,59 @@ pub fn normalized(
     out_pool: &[u8],
     bytes: usize,
     number: u32,
-) {
-    say(texts::ROWS, rows);
-    say(texts::BYTES, bytes);
-    texts::write(texts::POOL);
+) -> io::Result<()> {
+    say(rt, texts::ROWS, rows)?;
+    say(rt, texts::BYTES, bytes)?;
+    texts::write(rt, texts::POOL)?;
     if number == 0 {
-        pool_after(pool, out_pool, bytes);
+        pool_after(rt, pool, out_pool, bytes)?;
     }
-    rows_after(table, out_table, rows, out_pool, bytes);
+    rows_after(rt, table, out_table, rows, out_pool, bytes)
 }
 
 // Whether the result's pool starts with the pool, and the bytes that follow.
-fn pool_after(pool: &[u8], out_pool: &[u8], bytes: usize) {
+fn pool_after(rt: &impl Print, pool: &[u8], out_pool: &[u8], bytes: usize) -> io::Result<()> {
     let kept = names::same(between(out_pool, 0, pool.len()), pool);
-    either(kept, texts::KEPT, texts::NOT_KEPT);
-    io::write_all(1, between(out_pool, pool.len(), bytes));
-    texts::write(texts::APPENDED);
+    either(rt, kept, texts::KEPT, texts::NOT_KEPT)?;
+    rt.write_all(between(out_pool, pool.len(), bytes))?;
+    texts::write(rt, texts::APPENDED)
 }
 
 // Whether both outputs are zero after the result, all of them for a refusal; and the rows of the result that the table
 // does not have.
-fn rows_after(table: &[u32], out_table: &[u32], rows: usize, out_pool: &[u8], bytes: usize) {
+fn rows_after(
+    rt: &impl Print,
+    table: &[u32],
+    out_table: &[u32],
+    rows: usize,
+    out_pool: &[u8],
+    bytes: usize,
+) -> io::Result<()> {
     if rows > rules::MOST_ROWS {
-        return;
+        return Ok(());
     }
     let end = rows * rules::WIDTH;
     let cleared = same_words(&table[..0], out_table, end, out_table.len());
     either(
+        rt,
         cleared & zero_bytes(out_pool, bytes),
         texts::ZERO,
         texts::NOT_ZERO,
-    );
-    changed_rows(table, out_table, end);
+    )?;
+    changed_rows(rt, table, out_table, end)
 }
 
-fn changed_rows(table: &[u32], out_table: &[u32], end: usize)
+fn changed_rows(rt: &impl Print, table: &[u32], out_table: &[u32], end: usize) -> io::Result<()>
     requires { end ≤ MOST_ROWS * WIDTH }
 {
     let mut start: usize = 0;
     while start < end {
         if !same_words(table, out_table, start, start + rules::WIDTH) {
-            show(out_table, start);
+            show(rt, out_table, start)?;
         }
         start += rules::WIDTH;
     }
+    Ok(())
 }
 
 // The words from one index to another are equal in both tables; past its end, a table has zeros.
@@ -92,15 +103,15 @@ fn zero_bytes(bytes: &[u8], from: usize) -> bool {
 }
 
 // The number and the words of the row that starts there.
-fn show(table: &[u32], start: usize)
+fn show(rt: &impl Print, table: &[u32], start: usize) -> io::Result<()>
     requires { start ≤ MOST_ROWS * WIDTH }
 {
-    say(texts::CHANGED_ROW, start / rules::WIDTH);
-    texts::write(texts::WORDS);
+    say(rt, texts::CHANGED_ROW, start / rules::WIDTH)?;
+    texts::write(rt, texts::WORDS)?;
     let mut at = start;
     while at < start + rules::WIDTH {
-        say(texts::SPACE, word(table, at) as usize);
+        say(rt, texts::SPACE, word(table, at) as usize)?;
         at += 1;
     }
-    texts::write(texts::LINE);
+    texts::write(rt, texts::LINE)
 }

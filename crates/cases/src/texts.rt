@@ -2,6 +2,7 @@
 // string holds them all, in the order of their numbers and with `|` between two of them.
 use crate::parts::part;
 use answers::Number;
+use std::io;
 
 // Of every operation.
 pub const REFUSAL: usize = 0;
@@ -75,41 +76,43 @@ pub const NO_OPERATION: usize = 31;
 pub const TOO_LARGE: usize = 32;
 
 // A text.
-pub fn write(text: usize) {
-    io::write_all(
-        1,
-        part(
-            b": refusal |, row |, word |\n|: URI |, prefix |, default |, in scope: URI |refusal | row | word | |nothing|none|built-in xml|built-in xmlns|yes|no|: URI <|>, prefix <|>\n|, | rows, | bytes|, pool kept, appended <|, pool not kept, appended <|>|, the rest zero\n|, the rest NOT zero\n|  row |:|: not run, no such operation\n|: not run, a number is too large\n",
-            text,
-        ),
-    );
+pub fn write(rt: &impl Print, text: usize) -> io::Result<()> {
+    rt.write_all(part(
+        b": refusal |, row |, word |\n|: URI |, prefix |, default |, in scope: URI |refusal | row | word | |nothing|none|built-in xml|built-in xmlns|yes|no|: URI <|>, prefix <|>\n|, | rows, | bytes|, pool kept, appended <|, pool not kept, appended <|>|, the rest zero\n|, the rest NOT zero\n|  row |:|: not run, no such operation\n|: not run, a number is too large\n",
+        text,
+    ))
 }
 
 // A text, and a number after it.
-pub fn say(text: usize, number: usize) {
-    write(text);
-    io::print_decimal(1, number as u64);
+pub fn say(rt: &impl Print, text: usize, number: usize) -> io::Result<()> {
+    write(rt, text)?;
+    rt.print(number)
 }
 
 // A text, and bytes after it.
-pub fn quote(text: usize, bytes: &[u8]) {
-    write(text);
-    io::write_all(1, bytes);
+pub fn quote(rt: &impl Print, text: usize, bytes: &[u8]) -> io::Result<()> {
+    write(rt, text)?;
+    rt.write_all(bytes)
 }
 
 // One of two texts.
-pub fn either(first: bool, yes: usize, no: usize) {
+pub fn either(rt: &impl Print, first: bool, yes: usize, no: usize) -> io::Result<()> {
     if first {
-        write(yes);
-        return;
+        return write(rt, yes);
     }
-    write(no);
+    write(rt, no)
 }
 
 // The number, row and word of a refusal, each after its text.
-pub fn refusal(number_text: usize, row_text: usize, word_text: usize, given: Number) {
-    say(number_text, given.number as usize);
+pub fn refusal(
+    rt: &impl Print,
+    number_text: usize,
+    row_text: usize,
+    word_text: usize,
+    given: Number,
+) -> io::Result<()> {
+    say(rt, number_text, given.number as usize)?;
     let row = given.row;
-    say(row_text, row.0 as usize);
-    say(word_text, given.word as usize);
+    say(rt, row_text, row.0 as usize)?;
+    say(rt, word_text, given.word as usize)
 }

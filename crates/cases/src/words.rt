@@ -3,7 +3,7 @@
 // grows from row to row as it did between the two rows before. A number in digits is at most 4294967289.
 ghost use Rattle.std.specs.Prelude.{◌≤◌, length};
 
-use bytes::scan::find;
+use crate::parts::find;
 
 // The words of two rows more than a table may have.
 pub const MOST: usize = (rules::MOST_ROWS + 2) * rules::WIDTH;
@@ -15,7 +15,7 @@ pub fn read(text: &[u8], out: &mut [u32]) -> usize
     let mut count: usize = 0;
     let mut from: usize = 0;
     while from < text.len() {
-        let to = find(text, from, text.len(), b' ');
+        let to = find(text, from, b' ');
         count = put(&text[from..to], out, count);
         from = to + 1;
     }
@@ -62,14 +62,14 @@ fn go_on(out: &mut [u32], count: usize, rows: u32) -> usize
 
 // The word after two others: it differs from the last as that does from the one before.
 fn next(last: u32, before: u32) -> u32 {
-    std::num::wrapping_add_u32(last, std::num::wrapping_sub_u32(last, before))
+    last.wrapping_add(last.wrapping_sub(before))
 }
 
 // No word of the text has a digit too many to be a number.
 pub fn are_numbers(text: &[u8]) -> bool {
     let mut from: usize = 0;
     while from < text.len() {
-        let to = find(text, from, text.len(), b' ');
+        let to = find(text, from, b' ');
         if is_too_large(&text[from..to]) {
             return false;
         }
@@ -92,7 +92,7 @@ fn is_too_large(word: &[u8]) -> bool {
 }
 
 fn is_digit(b: u8) -> bool {
-    std::num::wrapping_sub_u8(b, b'0') < 10
+    b.wrapping_sub(b'0') < 10
 }
 
 // The number that the digits of a text make; `-` makes NONE, and so does a digit too many.
@@ -110,7 +110,7 @@ fn with_digit(number: u32, b: u8) -> u32 {
     if b == b'-' {
         return rules::NONE;
     }
-    let digit = std::num::wrapping_sub_u8(b, b'0');
+    let digit = b.wrapping_sub(b'0');
     if digit > 9 {
         return number;
     }

@@ -1,4 +1,3 @@
-use Prim.Native.Nat.{◌-◌}
 use native.Mathlib.Omega.{arith}
 use Rattle.runs.proofs.Runs.{run_on, run-ended, run-over}
 use Rattle.runs.proofs.look_for_run.Goals as goal

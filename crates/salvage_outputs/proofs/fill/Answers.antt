@@ -20,8 +20,11 @@ clear_words-requires c = rw c.copy_words.auto.table c.requires.table_room
 pub returns-then-dropped-eq0 : goal.returns-then-dropped-eq0
 returns-then-dropped-eq0 c =
     let none? = c.if-dropped-eq0.true in
-    let same = c.requires.unchanged none? in record { out_table_after = front-padded c.args.out_table.now c.args.table.now c.copy_words.ensures c.copy_words.auto.table c.clear_words.ensures (sym (ap length same) ∙ c.requires.words) c.requires.table_room
-          ∙ ap (padded (length c.args.out_table.now)) (sym same); list_after = all-zero c.args.list.now c.clear_words-then-dropped-eq0.ensures ∙ zeros-padded (length c.args.list.now) _ (omega (arith, c.requires.entries, none?)) }
+    let same = c.requires.unchanged none? in record {
+      out_table_after = front-padded c.args.out_table.now c.args.table.now c.copy_words.ensures c.copy_words.auto.table c.clear_words.ensures (sym (ap length same) ∙ c.requires.words) c.requires.table_room
+          ∙ ap (padded (length c.args.out_table.now)) (sym same);
+      list_after = all-zero c.args.list.now c.clear_words-then-dropped-eq0.ensures ∙ zeros-padded (length c.args.list.now) _ (omega (arith, c.requires.entries, none?));
+    }
 
 pub write-requires : goal.write-requires
 write-requires c =

@@ -1,0 +1,35 @@
+-- `check_few_proposal` meets its contract.
+use mathlib.Core.Path.{◌∙◌}
+use Rattle.table_size.specs.Small.{FEW_ROWS}
+use Rattle.bundles.specs.Opening.{Opens}
+use Rattle.bundles.proofs.Opening.{new-room}
+use Rattle.bundle_proposals.proofs.Numbering.{few-rows}
+use Rattle.bundle_proposals.proofs.Bundles.{proposal-unopened, proposal-open}
+use Rattle.bundle_proposals.proofs.check_few_proposal.Goals as goal
+
+pub read_rows-requires : goal.read_rows-requires
+read_rows-requires c = new-room c.args.proposal.now FEW_ROWS 0 (λ header few. c.requires.names_at_most.0 header)
+
+pub table-rows-requires : goal.table-rows-requires
+table-rows-requires c =
+    let opened : Opens c.args.proposal.now c.read_rows.new.table c.in-Rows.n = c.read_rows.ensures.by_index _ c.in-Rows.is in
+    opened.room
+
+pub pool-requires : goal.pool-requires
+pool-requires c =
+    let opened : Opens c.args.proposal.now c.read_rows.new.table c.in-Rows.n = c.read_rows.ensures.by_index _ c.in-Rows.is in
+    opened.inside
+
+pub check_few-requires : goal.check_few-requires
+check_few-requires c =
+    let opened : Opens c.args.proposal.now c.read_rows.new.table c.in-Rows.n = c.read_rows.ensures.by_index _ c.in-Rows.is in
+    record { pool_value = (c.requires.names_at_most.1, few-rows _ _ _ opened _ c.table-rows.ensures FEW_ROWS c.requires.names_at_most.0); noted = c.requires.noted }
+
+pub returns-in-Rows : goal.returns-in-Rows
+returns-in-Rows c =
+    let opened : Opens c.args.proposal.now c.read_rows.new.table c.in-Rows.n = c.read_rows.ensures.by_index _ c.in-Rows.is in
+    c.check_few.ensures ∙ proposal-open _ _ _ opened c.args.table.now c.args.pool.now _ _ c.table-rows.ensures c.pool.ensures
+
+pub returns-in-Refused : goal.returns-in-Refused
+returns-in-Refused c =
+    c.refuse_proposal.ensures ∙ proposal-unopened c.args.table.now c.args.pool.now c.args.proposal.now c.requires.names_at_most.1 _ (c.read_rows.ensures.bundle_value _ c.in-Refused.is)

@@ -1,0 +1,7 @@
+-- `noemathu::noemathu_uri_of_prefix` meets its contract.
+use mathlib.Core.Path.{ap, ◌∙◌}
+use Rattle.answers.specs.Given.{bound_given}
+use Rattle.noemathu.proofs.noemathu_uri_of_prefix.Goals as goal
+
+pub returns : goal.returns
+returns c = c.bound.ensures ∙ ap bound_given c.uri_of_prefix.ensures
