@@ -16,6 +16,7 @@ mod texts;
 mod words;
 
 use parts::find;
+use std::io::{self, Read};
 
 const OPERATIONS: usize = 4;
 
