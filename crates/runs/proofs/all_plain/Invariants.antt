@@ -9,7 +9,7 @@ use Rattle.runs.specs.Runs.{is_plain}
 use Rattle.runs.proofs.all_plain.Given as goal
 
 abbrev pub invariant-loop-i : goal.invariant-loop-i
-invariant-loop-i l =     (l.i ≤ length l.bytes) × (all : Bool) × (l.seen ≡ bool_byte (not all)) × ((all && all_of (is_plain l.quoted) (drop l.i l.bytes)) ≡ all_of (is_plain l.quoted) l.bytes)
+invariant-loop-i l = (l.i ≤ length l.bytes) × (all : Bool) × (l.seen ≡ bool_byte (not all)) × ((all && all_of (is_plain l.quoted) (drop l.i l.bytes)) ≡ all_of (is_plain l.quoted) l.bytes)
 
 abbrev pub decreases-loop-i : goal.decreases-loop-i
 decreases-loop-i l = length l.bytes - l.i

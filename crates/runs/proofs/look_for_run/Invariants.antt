@@ -6,7 +6,7 @@ use Rattle.runs.specs.Runs.{run}
 use Rattle.runs.proofs.look_for_run.Given as goal
 
 abbrev pub invariant-loop-end : goal.invariant-loop-end
-invariant-loop-end l =     (l.i ≤ l.end) × (l.end ≤ length l.bytes) × (l.end - l.i + length (run l.quoted (drop l.end l.bytes)) ≡ length (run l.quoted (drop l.i l.bytes)))
+invariant-loop-end l = (l.i ≤ l.end) × (l.end ≤ length l.bytes) × (l.end - l.i + length (run l.quoted (drop l.end l.bytes)) ≡ length (run l.quoted (drop l.i l.bytes)))
 
 abbrev pub decreases-loop-end : goal.decreases-loop-end
 decreases-loop-end l = length l.bytes - l.end
