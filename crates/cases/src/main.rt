@@ -22,14 +22,13 @@ const OPERATIONS: usize = 4;
 
 const NORMALIZE: usize = 3;
 
-// So many bytes of the standard input count; what follows them does not.
-const MOST_INPUT: usize = 65536;
+// So many bytes of the standard input are read, and no more.
+const MOST_INPUT: u64 = 65536;
 
 fn main(rt: HostRuntime) -> io::Result<()> {
     let mut text = Vec::new(rt.alloc());
-    rt.stdin().read_to_end(&mut text)?;
-    let count = text.len().min(MOST_INPUT);
-    each_line(&rt, &text[..count])
+    rt.stdin().take(MOST_INPUT).read_to_end(&mut text)?;
+    each_line(&rt, &text)
 }
 
 fn each_line(rt: &impl Print, text: &[u8]) -> io::Result<()> {
