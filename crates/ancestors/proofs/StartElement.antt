@@ -1,8 +1,10 @@
 -- The start element of a row, and the elements of a lookup: a law for each answer.
 -- Assumes nothing.
-use Prim.Native.Nat.{ℕ, zero, suc, ◌+◌, ◌-◌, ◌≤◌, ◌<◌}
+use Prim.Native.Nat.{ℕ, zero, suc, ◌+◌, ◌≤◌, ◌<◌}
 use native.Mathlib.Numerals.{add-one}
 use native.Mathlib.Omega.{arith}
+use Rattle.std.proofs.Common.{Option as Found, find, unwrap_or}
+use Rattle.std.specs.List.{range_with_len}
 use mathlib.Core.Bool.{Bool, true, false, cond, ◌&&◌}
 use mathlib.Core.List.{List, [], ◌∷◌}
 use mathlib.Core.Logic.{◌⊎◌, inl, inr}
@@ -30,40 +32,26 @@ child-yes table r i kind parent p is q = rw (q, ← p, is) refl
 pub child-no : (table : List ℕ) (r i kind : ℕ) → kind ≡ word table i TYPE → is_element kind ≡ false → false ≡ is_element_child table r i
 child-no table r i kind p is = rw (← p, is) refl
 
--- The scan for the element child, from row i on.
+-- The first number that passes a test, in the words of a search of a range.
+first-range : (test : ℕ → Bool) (i n : ℕ) → unwrap_or (find test (range_with_len i n)) NONE ≡ row_or (first_that test (numbers_from i n))
+first-range test i zero = refl
+first-range test i (suc n) =
+    by_cases (test i) (λ is. rw is refl) (λ is. rw (is, add-one) (first-range test (suc i) n))
+
+-- The scan for the element child.
 module _ (table : List ℕ) (r : ℕ) where
-  unfoldable pub child_from : ℕ → Option ℕ
-  child_from i = first_that (is_element_child table r) (numbers_from i (row_count table - i))
-
-  pub child-end : (i : ℕ) → row_count table ≤ i → none ≡ child_from i
-  unfolding child_from
-  child-end i past =
-      let count : row_count table - i ≡ 0 = omega arith in
-      rw count refl
-
-  child-step :
-      (i : ℕ) → i < row_count table → child_from i ≡ cond (is_element_child table r i) (some i) (child_from (suc i))
-  unfolding child_from
-  child-step i less =
-      let count : row_count table - i ≡ suc (row_count table - suc i) = omega arith in
-      ap (λ k. first_that (is_element_child table r) (numbers_from i k)) count
-
-  pub child-hit : (i : ℕ) → i < row_count table → is_element_child table r i ≡ true → some i ≡ child_from i
-  child-hit i less is = sym (child-step i less ∙ ap (λ t. cond t (some i) (child_from (suc i))) is)
-
-  pub child-miss : (i : ℕ) → i < row_count table → is_element_child table r i ≡ false → child_from (i + 1) ≡ child_from i
-  child-miss i less is = ap child_from (add-one i) ∙ sym (child-step i less ∙ ap (λ t. cond t (some i) (child_from (suc i))) is)
-
   same_tests : (pool : List ℕ) (i count : ℕ) → i + count ≤ row_count table → first_that (is_element_child table r) (numbers_from i count) ≡ first_that (λ child. is_element (node (nodes table pool) child).type && eqb (node (nodes table pool) child).parent r) (numbers_from i count)
   same_tests pool i zero within = refl
   same_tests pool i (suc count) within =
       rw (type-word table pool i (omega arith), parent-word table pool i (omega arith), same_tests pool (suc i) count (omega arith)) refl
 
-  pub child-all : (pool : List ℕ) → child_from 0 ≡ element_child (nodes table pool) r
-  unfolding child_from element_child
-  child-all pool =
-      let count : row_count table - 0 ≡ row_count table = omega arith in
-      rw (length-nodes table pool, count) (same_tests pool 0 (row_count table) (omega arith))
+  pub child-found :
+      (pool : List ℕ) (found : Found ℕ) → found ≡ find (is_element_child table r) (range_with_len 0 (row_count table))
+      → unwrap_or found NONE ≡ row_or (element_child (nodes table pool) r)
+  unfolding element_child
+  child-found pool found is =
+      rw (is, length-nodes table pool)
+      (first-range (is_element_child table r) 0 (row_count table) ∙ ap row_or (same_tests pool 0 (row_count table) (omega arith)))
 
 -- The start element, by the type.
 abbrev start_by : List Node → ℕ → ℕ → Option ℕ

@@ -62,16 +62,9 @@ pub fn element_child(table: &[u32], row: Row) -> Row
     requires { row_count table.now ≤ NONE }
     ensures { (pool : List ℕ) → result.0 ≡ row_or (element_child (nodes table.now pool) row.0) }
 {
-    let n = rows::row_count(table);
-    let mut i: usize = 0;
-    while i < n {
-        let child = Row(i as u32);
-        if is_element_child(table, child, row) {
-            return child;
-        }
-        i += 1;
-    }
-    Row(rules::NONE)
+    let rows = rows::row_count(table) as u32;
+    let child = (0..rows).find(|child| is_element_child(table, Row(*child), row));
+    Row(child.unwrap_or(rules::NONE))
 }
 
 // The child is an element and its parent is the row.

@@ -1,12 +1,13 @@
-// RULES 2: the number and values of the answers of the check and the lookups, as structs that C reads too.
+// RULES 2: the number and values of the answers of the lookups, as a struct that C reads too.
 #![tactic(auto)]
 
 ghost use Rattle.std.specs.Prelude.{◌≡◌};
-ghost use Rattle.answers.specs.Given.{check_given, located_given, bound_given};
+ghost use Rattle.rules.specs.Answers.{not_refused, no_place};
+ghost use Rattle.refusal_numbers.specs.Given.{number_given, refusal_given};
+ghost use Rattle.answers.specs.Given.{located_given, bound_given};
 
-pub use refusal_numbers::Number;
-use refusal_numbers::number_of;
-use rules::{Bound, Checked, Located, Offset, Place, Row};
+use refusal_numbers::{NOT_REFUSED, Number};
+use rules::{Bound, Offset, Place, Refusal};
 
 // What a lookup found, and where. The place is 0, 0 for nothing, for a built-in and for a refusal.
 #[repr(C)]
@@ -26,45 +27,36 @@ pub const BUILT_IN_XML: u32 = 2;
 
 pub const BUILT_IN_XMLNS: u32 = 3;
 
-const NOT_REFUSED: Number = Number {
-    number: 0,
-    row: Row(0),
-    word: 0,
-};
-
 const NO_PLACE: Place = Place {
     offset: Offset(0),
     length: 0,
 };
 
-pub fn check_number(answer: Checked) -> Number
-    ensures { result ≡ check_given answer }
-{
-    match answer {
-        Checked::Accepted => NOT_REFUSED,
-        Checked::Refused(refusal) => number_of(refusal),
+// What the lookup of a prefix and that of the default URI answer.
+impl From<Result<Option<Place>, Refusal>> for Found {
+    ghost from_gives = { λ answer found. found ≡ located_given answer };
+
+    fn from(answer: Result<Option<Place>, Refusal>) -> Found {
+        match answer {
+            Ok(Some(place)) => Found::new(NOT_REFUSED, PLACE, place),
+            Ok(None) => Found::nothing(),
+            Err(refusal) => Found::refused(refusal),
+        }
     }
 }
 
-pub fn located(answer: Located) -> Found
-    ensures { result ≡ located_given answer }
-{
-    match answer {
-        Located::At(place) => Found::new(NOT_REFUSED, PLACE, place),
-        Located::Nothing => Found::new(NOT_REFUSED, NOTHING, NO_PLACE),
-        Located::Refused(refusal) => Found::new(number_of(refusal), NOTHING, NO_PLACE),
-    }
-}
+// What the lookup of a URI and the in-scope lookups answer.
+impl From<Result<Option<Bound>, Refusal>> for Found {
+    ghost from_gives = { λ answer found. found ≡ bound_given answer };
 
-pub fn bound(answer: Bound) -> Found
-    ensures { result ≡ bound_given answer }
-{
-    match answer {
-        Bound::At(place) => Found::new(NOT_REFUSED, PLACE, place),
-        Bound::Xml => Found::new(NOT_REFUSED, BUILT_IN_XML, NO_PLACE),
-        Bound::Xmlns => Found::new(NOT_REFUSED, BUILT_IN_XMLNS, NO_PLACE),
-        Bound::Nothing => Found::new(NOT_REFUSED, NOTHING, NO_PLACE),
-        Bound::Refused(refusal) => Found::new(number_of(refusal), NOTHING, NO_PLACE),
+    fn from(answer: Result<Option<Bound>, Refusal>) -> Found {
+        match answer {
+            Ok(Some(Bound::At(place))) => Found::new(NOT_REFUSED, PLACE, place),
+            Ok(Some(Bound::Xml)) => Found::new(NOT_REFUSED, BUILT_IN_XML, NO_PLACE),
+            Ok(Some(Bound::Xmlns)) => Found::new(NOT_REFUSED, BUILT_IN_XMLNS, NO_PLACE),
+            Ok(None) => Found::nothing(),
+            Err(refusal) => Found::refused(refusal),
+        }
     }
 }
 
@@ -77,5 +69,17 @@ impl Found {
             found,
             place,
         }
+    }
+
+    fn nothing() -> Self
+        ensures { result ≡ record { number = number_given not_refused; found = NOTHING; place = no_place } }
+    {
+        Self::new(NOT_REFUSED, NOTHING, NO_PLACE)
+    }
+
+    fn refused(refusal: Refusal) -> Self
+        ensures { result ≡ record { number = refusal_given refusal; found = NOTHING; place = no_place } }
+    {
+        Self::new(refusal.into(), NOTHING, NO_PLACE)
     }
 }

@@ -1,6 +1,6 @@
 -- One row more, before those that are linked.
 -- Assumes nothing.
-use Prim.Native.Nat.{ℕ, suc, ◌+◌, ◌-◌, ◌≤◌, ◌<◌}
+use Prim.Native.Nat.{ℕ, suc, ◌+◌, ◌≤◌, ◌<◌}
 use mathlib.Core.Path.{◌≡◌, refl, sym, ◌∙◌, ap, subst}
 use mathlib.Core.Logic.{inl, inr, ⊎_elim}
 use mathlib.Core.Bool.{Bool, true, false, ◌&&◌}
@@ -30,7 +30,7 @@ unfolding row_of
 row-of r = rw (ne_eqb (r + 1) 0 (λ e. omega arith)) (omega arith)
 
 -- Nothing is linked at the end.
-pub linked-none : (table notes : List ℕ) (n : ℕ) → ((e : ℕ) → e < n → note_at notes e FIRST ≡ 0) → LinkedFrom table notes n n
+linked-none : (table notes : List ℕ) (n : ℕ) → ((e : ℕ) → e < n → note_at notes e FIRST ≡ 0) → LinkedFrom table notes n n
 unfolding row_of
 linked-none table notes n none? =
     record {
@@ -143,11 +143,5 @@ module _ {table notes : List ℕ} {n r e : ℕ} (linked : LinkedFrom table notes
       (subst (λ (l : List ℕ). LinkedFrom table l n r) (sym made) linked-attribute, subst (SameBefore FIRST notes) (sym made) linked-kept)
 
 -- The pass from the last row to the first.
-pub linked-before : {table notes : List ℕ} {n r : ℕ} → 0 < r → LinkedFrom table notes n r → LinkedFrom table notes n ((r - 1) + 1)
-linked-before {table} {notes} {n} {r} some? h = let same : r ≡ (r - 1) + 1 = omega arith in subst (LinkedFrom table notes n) same h
-
-pub linked-end : {table notes : List ℕ} {n r : ℕ} → r ≤ 0 → LinkedFrom table notes n r → LinkedFrom table notes n 0
-linked-end {table} {notes} {n} {r} none? h = let same : r ≡ 0 = omega arith in subst (LinkedFrom table notes n) same h
-
 pub linked-start : {table notes : List ℕ} {r : ℕ} → r ≡ row_count table → ((e : ℕ) → e < row_count table → note_at notes e FIRST ≡ 0) → LinkedFrom table notes (row_count table) r
 linked-start {table} {notes} same none? = subst (LinkedFrom table notes (row_count table)) (sym same) (linked-none table notes (row_count table) none?)

@@ -15,10 +15,8 @@ pub fn link_attributes(table: &[u32], notes: &mut [u16])
     ensures linked_from { LinkedFrom table.now notes.new (row_count table.now) 0 }
     ensures same_before { SameBefore FIRST notes.old notes.new }
 {
-    let mut r = rows::row_count(table);
-    while r > 0 {
-        r -= 1;
-        link(table, notes, Row(r as u32));
+    for r in (0..rows::row_count(table) as u32).rev() {
+        link(table, notes, Row(r));
     }
 }
 

@@ -1,5 +1,6 @@
 -- How a lookup begins.
 -- Assumes nothing.
+use Rattle.std.specs.Prelude.{Ok, Err}
 use Prim.Native.Nat.{ℕ, ◌+◌, ◌*◌, ◌≤◌, ◌<◌}
 use native.Mathlib.Omega.{arith}
 use mathlib.Core.Bool.{true, false, true≢false}
@@ -16,7 +17,6 @@ use Rattle.rules.specs.Refusals.{checked}
 use Rattle.rules.specs.Lookups.{lookup_refusal}
 use Rattle.rules.specs.declared.Refusal.{Refusal}
 use Rattle.rules.specs.declared.NameId.{NameId}
-use Rattle.rules.specs.declared.Checked.{Checked}
 use Rattle.rules.proofs.Lists.{by_cases}
 use Rattle.rules.proofs.Accepted.{accepted, few-rows}
 use Rattle.notes.specs.Notes.{NOTES, LATEST, note_at}
@@ -29,10 +29,9 @@ use Rattle.ancestors.specs.Paths.{Element, PathOf}
 use Rattle.scopes.specs.Standing.{Linked}
 use Rattle.declarations.specs.Along.{Along}
 use Rattle.beginning.specs.Ground.{Blank, Unlinked, Ground, Begins}
-use Rattle.beginning.specs.declared.Begun.{Begun}
 use Rattle.beginning.proofs.Refused.{admitted}
 
-pub few : (table pool : List ℕ) → checked table pool ≡ Checked.Accepted → row_count table ≤ MOST_ROWS
+pub few : (table pool : List ℕ) → checked table pool ≡ Ok tt → row_count table ≤ MOST_ROWS
 few table pool is = few-rows table pool (accepted table pool is).size
 
 -- Zeros are a dictionary to lend.
@@ -56,17 +55,17 @@ module _ (table pool : List ℕ) (r : ℕ) (name : List ℕ) where
   -- What begin answers.
   module _ (notes : List ℕ) where
     pub begun-refused :
-        (x : Refusal) → lookup_refusal table pool r ≡ some x → Begins table pool r notes name (Begun.Refused x)
+        (x : Refusal) → lookup_refusal table pool r ≡ some x → Begins table pool r notes name (Err x)
     begun-refused x is = (λ n e. let bad : true ≡ false = cc in absurd (true≢false bad), λ y e. let same : x ≡ y = cc in is ∙ ap some same)
 
-  module _ (before notes dictionary : List ℕ) (is : checked table pool ≡ Checked.Accepted) (named : Named table pool dictionary notes) where
+  module _ (before notes dictionary : List ℕ) (is : checked table pool ≡ Ok tt) (named : Named table pool dictionary notes) where
     pub few-numbers : last_of dictionary < 65535
     few-numbers = let most : row_count table ≤ MOST_ROWS = few table pool is in omega (arith, named.few)
 
     pub begun-asked :
         Blank table before → length notes ≡ length before → ((q k : ℕ) → LATEST ≤ k → k < NOTES → note_at notes q k ≡ note_at before q k) → r < row_count table
         → (k : NameId) → ((n : ℕ) (bytes : List ℕ) → Names (spelling dictionary pool) (last_of dictionary) n bytes → eqb n k.0 ≡ same_bytes bytes name)
-        → Begins table pool r notes name (Begun.Asked k)
+        → Begins table pool r notes name (Ok k)
     begun-asked blank size kept within k asked = (
       λ n e. let same : k ≡ n = cc in
           subst (λ (j : NameId). Ground table pool r notes j.0 name) same

@@ -1,5 +1,5 @@
 -- What a lookup has when it has begun.
-use Rattle.std.specs.Prelude.{ℕ, ◌*◌, ◌≤◌, ◌<◌, List, ◌≡◌, length, replicate}
+use Rattle.std.specs.Prelude.{ℕ, ◌*◌, ◌≤◌, ◌<◌, List, ◌≡◌, length, replicate, Result, Ok, Err}
 use Rattle.std.proofs.Math.Option.{none, some}
 use Rattle.rules.specs.Table.{MOST_ROWS, row_count}
 use Rattle.rules.specs.Lookups.{lookup_refusal}
@@ -7,7 +7,6 @@ use Rattle.rules.specs.declared.Refusal.{Refusal}
 use Rattle.rules.specs.declared.NameId.{NameId}
 use Rattle.notes.specs.Notes.{NOTES, LATEST, note_at}
 use Rattle.declarations.specs.Meant.{Meant}
-use Rattle.beginning.specs.declared.Begun.{Begun}
 
 -- The notes are cleared, and there are enough. A table that is refused for its size needs none.
 pub record Blank (table notes : List ℕ) : Type 0 where
@@ -28,7 +27,7 @@ pub record Ground (table pool : List ℕ) (r : ℕ) (notes : List ℕ) (number :
   pub meant : Meant table pool notes number name
 
 -- What beginning a lookup from row r answers: the number of the name, or the refusal.
-abbrev pub Begins : List ℕ → List ℕ → ℕ → List ℕ → List ℕ → Begun → Type 0
+abbrev pub Begins : List ℕ → List ℕ → ℕ → List ℕ → List ℕ → Result NameId Refusal → Type 0
 Begins table pool r notes name begun =
-    ((number : NameId) → begun ≡ Begun.Asked number → Ground table pool r notes number.0 name)
-    × ((x : Refusal) → begun ≡ Begun.Refused x → lookup_refusal table pool r ≡ some x)
+    ((number : NameId) → begun ≡ Ok number → Ground table pool r notes number.0 name)
+    × ((x : Refusal) → begun ≡ Err x → lookup_refusal table pool r ≡ some x)

@@ -3,69 +3,54 @@
 // declarations, and the elements from the row's start element outward.
 #![tactic(auto)]
 
-ghost use Rattle.std.specs.Prelude.{◌≡◌, List, ℕ, ◌≤◌, ◌<◌, length, take};
+ghost use Rattle.std.specs.Prelude.{◌≡◌, List, ℕ, ◌≤◌, ◌<◌, length, take, replicate};
 ghost use Rattle.rules.specs.Table.{nodes, row_count};
 ghost use Rattle.rules.specs.Lookups.{lookup_elements};
 ghost use Rattle.scopes.specs.Standing.{Relinked};
-ghost use Rattle.table_size.specs.Small.{FEW_ROWS};
 ghost use Rattle.checker.specs.Lent.{Lent};
 ghost use Rattle.declarations.specs.Along.{Along};
 ghost use Rattle.beginning.specs.Ground.{Blank, Unlinked, Begins};
 
-use rules::{Checked, NameId, Refusal, Row};
+use rules::{NameId, Refusal, Row};
 
-// The number of the name that is asked for, or a refusal.
-#[derive(Clone, Copy)]
-pub enum Begun {
-    Asked(NameId),
-    Refused(Refusal),
-}
-
-// Checks the table, whose rows get the numbers of their names, and looks for the row and for the name.
-pub fn begin(table: &[u32], pool: &[u8], row: Row, name: &[u8], notes: &mut [u16]) -> Begun
-    requires { Blank table.now notes.old }
-    ensures { Begins table.now pool.now row.0 notes.new name.now result }
-{
-    if rows::row_count(table) <= table_size::FEW_ROWS {
-        return begin_few(table, pool, row, name, notes);
-    }
-    let mut dictionary = [0; checker::DICTIONARY];
-    begin_in(table, pool, row, name, &mut dictionary, notes)
-}
-
-// The same for a small table.
-pub fn begin_few(table: &[u32], pool: &[u8], row: Row, name: &[u8], notes: &mut [u16]) -> Begun
-    requires table_bound { row_count table.now ≤ FEW_ROWS }
-    requires blank { Blank table.now notes.old }
-    ensures { Begins table.now pool.now row.0 notes.new name.now result }
-{
-    let mut dictionary = [0; checker::SMALL_DICTIONARY];
-    begin_in(table, pool, row, name, &mut dictionary, notes)
-}
-
-// The same, in a dictionary that is lent.
-fn begin_in(
+// The number of the name that is asked for. Checks the table, whose rows get the numbers of their names, and looks for the row
+// and for the name.
+pub fn begin(
     table: &[u32],
     pool: &[u8],
     row: Row,
     name: &[u8],
-    dictionary: &mut [u16],
     notes: &mut [u16],
-) -> Begun
-    requires blank { Blank table.now notes.old }
-    requires lent { Lent table.now dictionary.old notes.old }
+) -> Result<NameId, Refusal>
+    requires { Blank table.now notes.old }
     ensures { Begins table.now pool.now row.0 notes.new name.now result }
 {
-    let verdict = checker::check_numbered(table, pool, dictionary, notes);
-    match verdict {
-        Checked::Accepted => {
-            if rows::has_row(table, row) {
-                return Begun::Asked(asked_names::number_of_name(dictionary, pool, name));
-            }
-            Begun::Refused(Refusal::NoSuchRow)
-        }
-        Checked::Refused(earlier) => Begun::Refused(earlier),
+    if rows::row_count(table) <= table_size::FEW_ROWS {
+        return begin_in::<{ checker::SMALL_DICTIONARY }>(table, pool, row, name, notes);
     }
+    begin_in::<{ checker::DICTIONARY }>(table, pool, row, name, notes)
+}
+
+// The same, in a dictionary of so many words.
+#[inline(never)]
+fn begin_in<const DICTIONARY_WORDS: usize>(
+    table: &[u32],
+    pool: &[u8],
+    row: Row,
+    name: &[u8],
+    notes: &mut [u16],
+) -> Result<NameId, Refusal>
+    requires dictionary_size { DICTIONARY_WORDS < 65536 }
+    requires blank { Blank table.now notes.old }
+    requires lent { Lent table.now (replicate DICTIONARY_WORDS 0) notes.old }
+    ensures { Begins table.now pool.now row.0 notes.new name.now result }
+{
+    let mut dictionary = [0; DICTIONARY_WORDS];
+    checker::check_numbered(table, pool, &mut dictionary, notes)?;
+    if !rows::has_row(table, row) {
+        return Err(Refusal::NoSuchRow);
+    }
+    Ok(asked_names::number_of_name(&dictionary, pool, name))
 }
 
 // Links the declarations, and writes the elements from the row's start element outward to the path.

@@ -1,6 +1,6 @@
--- A turn of a loop that clears or copies, and what the loop leaves.
+-- A turn of a loop that copies, and what the loop leaves.
 -- Assumes nothing.
-use Prim.Native.Nat.{ℕ, suc, ◌+◌, ◌-◌, ◌≤◌, ◌<◌}
+use Prim.Native.Nat.{ℕ, ◌+◌, ◌≤◌, ◌<◌}
 use mathlib.Core.Path.{◌≡◌, refl, sym, ap, ◌∙◌}
 use mathlib.Core.List.{List, [], ◌∷◌, ◌++◌, append-nil, append_assoc}
 use native.Mathlib.Nat.{zero-add, add-zero, le_antisymm}
@@ -9,20 +9,9 @@ use native.Mathlib.Omega.{arith}
 use lib.Dec.{ltb}
 use borrow.Author.Tests.{ltb-true, ltb-false}
 use Rattle.rules.proofs.Lists.{by_cases}
-use lib.ListN.{length, get_or, take, drop, set, replicate, length-set, length-append, length-drop}
-use lib.Seq.{take_all, take-length, take-suc-set, take-append_seam, get_or-append_seam, append_snoc, length-take-le, take_at, drop_at, drop-drop, paste, paste-suc}
-use Rattle.buffers.specs.Writes.{written, cleared, Put}
-
--- What is left to clear decides what the buffer will be.
-pub clear_step : (t : List ℕ) (i : ℕ) → i < length t → cleared (set t i 0) (i + 1) ≡ cleared t i
-clear_step t i h =
-    let e : length t - i ≡ suc (length t - suc i) = omega arith in
-    rw (add-one, length-set, take-suc-set t i 0, e) (append_snoc (take i t) 0 (replicate (length t - suc i) 0))
-
-pub clear-end : (t : List ℕ) (i : ℕ) → length t ≤ i → cleared t i ≡ t
-clear-end t i h =
-    let e : length t - i ≡ 0 = omega arith in
-    rw (e, take_all i t) (append-nil t)
+use lib.ListN.{length, get_or, take, drop, set, length-append, length-drop}
+use lib.Seq.{take-length, take-append_seam, get_or-append_seam, length-take-le, take_at, drop_at, drop-drop, paste, paste-suc}
+use Rattle.buffers.specs.Writes.{written, Put}
 
 module _ (t₀ t : List ℕ) (at : ℕ) (l : List ℕ) (i : ℕ) (e : t ≡ paste t₀ at l i) where
   -- A store of element i takes the copy of i elements to that of i + 1.

@@ -28,11 +28,7 @@ pub fn clear_words(table: &mut [u32], rows: usize)
     requires { WIDTH * rows ≤ length table.old }
     ensures { table.new ≡ cleared table.old (WIDTH * rows) }
 {
-    let mut i = rules::WIDTH * rows;
-    while i < table.len() {
-        table[i] = 0;
-        i += 1;
-    }
+    table[rules::WIDTH * rows..].fill(0);
 }
 
 // Sets the bytes behind the first ones to 0.
@@ -40,11 +36,7 @@ pub fn clear_bytes(pool: &mut [u8], bytes: usize)
     requires { bytes ≤ length pool.old }
     ensures { pool.new ≡ cleared pool.old bytes }
 {
-    let mut i = bytes;
-    while i < pool.len() {
-        pool[i] = 0;
-        i += 1;
-    }
+    pool[bytes..].fill(0);
 }
 
 // Writes bytes to the pool from an offset on.
@@ -61,12 +53,9 @@ pub fn write_bytes(out: &mut [u8], at: usize, bytes: &[u8]) -> usize
     ensures value { result ≡ at + length bytes.now }
     ensures out_after { out.new ≡ written out.old at bytes.now }
 {
-    let mut i = 0;
-    while i < bytes.len() {
-        out[at + i] = bytes[i];
-        i += 1;
-    }
-    at + i
+    let end = at + bytes.len();
+    out[at..end].copy_from_slice(bytes);
+    end
 }
 
 // Writes bytes to an output from a place on, if they fit; answers where they end, or a place past the output's end.
@@ -89,9 +78,5 @@ pub fn write_rows(table: &mut [u32], row: Row, words: &[u32])
     ensures { table.new ≡ written table.old (WIDTH * row.0) words.now }
 {
     let start = rules::WIDTH * row.0 as usize;
-    let mut i = 0;
-    while i < words.len() {
-        table[start + i] = words[i];
-        i += 1;
-    }
+    table[start..start + words.len()].copy_from_slice(words);
 }

@@ -1,5 +1,6 @@
 -- What the writes of a bundle leave in the output.
 -- Assumes nothing.
+use Rattle.std.specs.Prelude.{Result, Ok}
 use Prim.Native.Nat.{ℕ, ◌+◌, ◌-◌, ◌*◌, ◌/◌, ◌%◌, ◌≤◌, ◌<◌}
 use mathlib.Core.Path.{◌≡◌, refl, sym, ap, ◌∙◌}
 use mathlib.Core.List.{List, [], ◌∷◌, ◌++◌, append_assoc}
@@ -11,7 +12,6 @@ use borrow.Author.Tests.{lt-ltb, le-ltb}
 use Rattle.rules.specs.Table.{row_count}
 use Rattle.rules.specs.Outputs.{padded}
 use Rattle.rules.specs.declared.Refusal.{Refusal}
-use Rattle.rules.specs.declared.Written.{Written}
 use Rattle.buffers.specs.Writes.{written, cleared}
 use Rattle.buffers.proofs.Writes.{written_behind, written-from-start, length-written}
 use Rattle.little_endian.specs.Numbers.{word_bytes}
@@ -63,13 +63,13 @@ module _ (out table pool : List ℕ) (fits : HEADER + 4 * length table + length 
 
 -- What a write answers and leaves, by the room.
 module _ (out table pool : List ℕ) where
-  abbrev pub Leaves : Written → List ℕ → Type 0
+  abbrev pub Leaves : Result ℕ Refusal → List ℕ → Type 0
   Leaves answer left =
       (answer ≡ (bundle_written none (length out) (write_bundle table pool)).answer)
       × (left ≡ (bundle_written none (length out) (write_bundle table pool)).bytes)
 
   pub no_room :
-      (left : List ℕ) (answer : Written) → length out < HEADER + 4 * length table + length pool
+      (left : List ℕ) (answer : Result ℕ Refusal) → length out < HEADER + 4 * length table + length pool
       → answer ≡ (write_refused (length out) Refusal.BundleRoom).answer → left ≡ (write_refused (length out) Refusal.BundleRoom).bytes → Leaves answer left
   unfolding bundle_written
   no_room left answer h is leaves =
@@ -79,9 +79,9 @@ module _ (out table pool : List ℕ) where
 
   pub written-done :
       (left : List ℕ) → HEADER + 4 * length table + length pool ≤ length out → left ≡ padded (length out) (write_bundle table pool)
-      → Leaves (Written.Done (HEADER + 4 * length table + length pool)) left
+      → Leaves (Ok (HEADER + 4 * length table + length pool)) left
   unfolding bundle_written write_done
   written-done left h e =
       let size = length-bundle table pool in
       let enough = le-ltb (length out) (length (write_bundle table pool)) (omega arith) in
-      (rw enough (ap Written.Done (sym size)), rw enough e)
+      (rw enough (ap Ok (sym size)), rw enough e)

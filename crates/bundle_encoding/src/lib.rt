@@ -10,22 +10,27 @@ ghost use Rattle.bundles.specs.Bundles.{HEADER, header_bytes, write_bundle};
 ghost use Rattle.bundles.specs.Operations.{bundle_written, table_written};
 
 use bundles::{HEADER, MARK, VERSION};
-use rules::{Checked, Offset, Refusal, Written};
+use rules::{Offset, Refusal};
 
 // Writes a table and its pool, if the check has accepted them.
-pub fn write_checked(drawn: Checked, table: &[u32], pool: &[u8], out: &mut [u8]) -> Written
+pub fn write_checked(
+    drawn: Result<(), Refusal>,
+    table: &[u32],
+    pool: &[u8],
+    out: &mut [u8],
+) -> Result<usize, Refusal>
     requires { drawn ≡ checked table.now pool.now }
     ensures value { result ≡ (table_written table.now pool.now (length out.old)).answer }
     ensures out_after { out.new ≡ (table_written table.now pool.now (length out.old)).bytes }
 {
     match drawn {
-        Checked::Accepted => write_bundle(table, pool, out),
-        Checked::Refused(x) => bundles::refuse(out, x),
+        Ok(()) => write_bundle(table, pool, out),
+        Err(x) => bundles::refuse(out, x),
     }
 }
 
 // Writes a table and its pool as a bundle to the start of an output, and clears the rest; or refuses with 33.
-pub fn write_bundle(table: &[u32], pool: &[u8], out: &mut [u8]) -> Written
+pub fn write_bundle(table: &[u32], pool: &[u8], out: &mut [u8]) -> Result<usize, Refusal>
     requires { Sized table.now pool.now }
     ensures value { result ≡ (bundle_written none (length out.old) (write_bundle table.now pool.now)).answer }
     ensures out_after { out.new ≡ (bundle_written none (length out.old) (write_bundle table.now pool.now)).bytes }
@@ -39,7 +44,7 @@ pub fn write_bundle(table: &[u32], pool: &[u8], out: &mut [u8]) -> Written
     little_endian::write_words(out, HEADER, table);
     buffers::append_bytes(out, Offset(behind as u32), pool);
     buffers::clear_bytes(out, size);
-    Written::Done { bytes: size }
+    Ok(size)
 }
 
 // Writes the bytes before the rows.

@@ -1,5 +1,6 @@
 -- What the writes around a pool leave in the output.
 -- Assumes nothing.
+use Rattle.std.specs.Prelude.{Ok}
 use Prim.Native.Nat.{ℕ, ◌+◌, ◌-◌, ◌*◌, ◌≤◌}
 use mathlib.Core.Path.{◌≡◌, sym, ap, ◌∙◌}
 use mathlib.Core.List.{List, ◌++◌, append_assoc}
@@ -8,7 +9,6 @@ use lib.ListN.{length, take, drop, replicate, length-append, length-drop}
 use lib.Seq.{length-take-le, take-append-add}
 use Rattle.rules.specs.Table.{row_count}
 use Rattle.rules.specs.Outputs.{padded}
-use Rattle.rules.specs.declared.Written.{Written}
 use Rattle.buffers.specs.Writes.{written, cleared}
 use Rattle.buffers.proofs.Writes.{written_behind, written-from-start, length-written}
 use Rattle.little_endian.specs.Numbers.{word_bytes}
@@ -24,9 +24,9 @@ module _ (out table : List ℕ) (bytes : ℕ) (fits : HEADER + 4 * length table 
   pool-size : length pool ≡ bytes
   pool-size = length-take-le bytes (drop (HEADER + 4 * length table) out) (rw length-drop (omega arith))
 
-  pub frame-said : Written.Done (HEADER + 4 * length table + bytes) ≡ (write_done (length out) (write_bundle table pool)).answer
+  pub frame-said : Ok (HEADER + 4 * length table + bytes) ≡ (write_done (length out) (write_bundle table pool)).answer
   unfolding write_done
-  frame-said = ap Written.Done (sym (length-bundle table pool ∙ ap (λ (n : ℕ). HEADER + 4 * length table + n) pool-size))
+  frame-said = ap Ok (sym (length-bundle table pool ∙ ap (λ (n : ℕ). HEADER + 4 * length table + n) pool-size))
 
   pub frame-left :
       (o₁ o₂ o₃ : List ℕ) → o₁ ≡ written out 0 (header_bytes (row_count table) bytes) → o₂ ≡ written o₁ HEADER (word_bytes table) → o₃ ≡ cleared o₂ (HEADER + 4 * length table + bytes)

@@ -1,5 +1,6 @@
 -- What the tests of a bundle's beginning tell.
 -- Assumes nothing.
+use Rattle.std.specs.Prelude.{Result, Ok, Err}
 use Prim.Native.Nat.{ℕ, ◌+◌, ◌-◌, ◌*◌, ◌%◌, ◌≤◌, ◌<◌}
 use mathlib.Core.Path.{◌≡◌, refl, sym, ap, ◌∙◌, subst}
 use mathlib.Core.Bool.{Bool, true, false, ◌&&◌, ◌||◌, not, true≢false}
@@ -13,7 +14,6 @@ use borrow.Author.Tests.{lt-ltb, le-ltb, eq-eqb, ne_eqb}
 use Rattle.rules.specs.Table.{WIDTH, MOST_ROWS, MOST_BYTES}
 use Rattle.rules.specs.Refusals.{refused_if, bad_size, verdict}
 use Rattle.rules.specs.declared.Refusal.{Refusal}
-use Rattle.rules.specs.declared.Checked.{Checked}
 use Rattle.rules.proofs.Refusals.{not-refused, all_none, verdict-accepted}
 use Rattle.rules.proofs.Accepted.{sized}
 use Rattle.buffers.specs.Writes.{written}
@@ -22,7 +22,6 @@ use Rattle.rules.proofs.Lists.{unequal-same_bytes}
 use Rattle.little_endian.specs.Numbers.{words_from}
 use Rattle.bundles.specs.Bundles.{MARK, VERSION, OLD_VERSION, HEADER, OLD_WIDTH, OLD_ROW_BYTES, bundle_version, bundle_rows, bundle_pool_length, is_old, row_bytes, pool_start, wrong_mark, other_version, bad_lengths, bundle_refusal, widened, bundle_table, bundle_pool}
 use Rattle.bundles.specs.Opening.{opening_refusal, HasRoom, Opens}
-use Rattle.bundle_opening.specs.declared.Opened.{Opened}
 use Rattle.bundles.proofs.Opening.{Agreed, bundle-agreed, new-bytes, old-bytes, new-table, old-table, length-table, length-pool}
 
 neither : (a b : Bool) → not (a || b) ≡ (not a && not b)
@@ -112,7 +111,7 @@ pub record Ready (bytes : List ℕ) : Type 0 where
   pub few : bundle_rows bytes ≤ MOST_ROWS
   pub short : length (bundle_pool bytes) ≤ MOST_BYTES
 
-pub ready : (bytes : List ℕ) → verdict (opening_refusal bytes) ≡ Checked.Accepted → Ready bytes
+pub ready : (bytes : List ℕ) → verdict (opening_refusal bytes) ≡ Ok tt → Ready bytes
 unfolding opening_refusal
 ready bytes e =
     let bad = bad_size (bundle_table bytes) (bundle_pool bytes) in
@@ -175,11 +174,11 @@ module _ (bytes : List ℕ) (n : ℕ) (is : n ≡ bundle_rows bytes) where
 
 -- What opening answers.
 module _ (bytes left : List ℕ) where
-  abbrev pub Answers : Opened → Type 0
-  Answers answer = ((n : ℕ) → answer ≡ Opened.Rows n → Opens bytes left n) × ((x : Refusal) → answer ≡ Opened.Refused x → opening_refusal bytes ≡ some x)
+  abbrev pub Answers : Result ℕ Refusal → Type 0
+  Answers answer = ((n : ℕ) → answer ≡ Ok n → Opens bytes left n) × ((x : Refusal) → answer ≡ Err x → opening_refusal bytes ≡ some x)
 
-  pub opened_rows : (k : ℕ) → Opens bytes left k → Answers (Opened.Rows k)
+  pub opened_rows : (k : ℕ) → Opens bytes left k → Answers (Ok k)
   opened_rows k is = (λ n e. let same : k ≡ n = cc in subst (Opens bytes left) same is, λ y e. cc)
 
-  pub opened-refused : (x : Refusal) → opening_refusal bytes ≡ some x → Answers (Opened.Refused x)
+  pub opened-refused : (x : Refusal) → opening_refusal bytes ≡ some x → Answers (Err x)
   opened-refused x is = (λ n e. let bad : true ≡ false = cc in absurd (true≢false bad), λ y e. let same : x ≡ y = cc in is ∙ ap some same)

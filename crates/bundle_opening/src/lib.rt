@@ -2,65 +2,53 @@
 // filled in quickest; only what was read into it is looked at.
 #![tactic(auto)]
 
-ghost use Rattle.std.specs.Prelude.{◌≡◌, ℕ};
+ghost use Rattle.std.specs.Prelude.{◌≡◌, ℕ, Ok, Err};
 ghost use Rattle.std.proofs.Math.Option.{some};
 ghost use Rattle.rules.specs.Refusals.{verdict};
 ghost use Rattle.rules.specs.declared.Refusal.{Refusal};
 ghost use Rattle.bundles.specs.Bundles.{wrong_mark, other_version, bad_lengths};
 ghost use Rattle.bundles.specs.Opening.{opening_refusal, HasRoom, Opens};
-ghost use Rattle.bundle_opening.specs.declared.Opened.{Opened};
 
 use bundles::HEADER;
-use rules::{Checked, Refusal};
+use rules::Refusal;
 
-// What opening a bundle answers: how many rows it has.
-#[derive(Clone, Copy)]
-pub enum Opened {
-    Rows(usize),
-    Refused(Refusal),
-}
-
-// Opens a bundle: reads its rows into the start of a table that has room for them. Refuses with 30 to 32, and
+// Opens a bundle: reads its rows into the start of a table that has room for them, and answers how many there are. Refuses with 30 to 32, and
 // with 1 for more rows or pool bytes than there may be.
-pub fn read_rows(bundle: &[u8], table: &mut [u32]) -> Opened
+pub fn read_rows(bundle: &[u8], table: &mut [u32]) -> Result<usize, Refusal>
     requires { HasRoom bundle.now table.old }
-    ensures by_index { (n : ℕ) → result ≡ Opened.Rows n → Opens bundle.now table.new n }
-    ensures bundle_value { (x : Refusal) → result ≡ Opened.Refused x → opening_refusal bundle.now ≡ some x }
+    ensures by_index { (n : ℕ) → result ≡ Ok n → Opens bundle.now table.new n }
+    ensures bundle_value { (x : Refusal) → result ≡ Err x → opening_refusal bundle.now ≡ some x }
 {
-    match judge(bundle) {
-        Checked::Accepted => {
-            let rows = bundle_parts::row_count(bundle);
-            if bundle_parts::is_old(bundle) {
-                old_rows::read(&bundle[HEADER..], table, rows);
-                return Opened::Rows(rows);
-            }
-            little_endian::read_words(&bundle[HEADER..], table, rules::WIDTH * rows);
-            Opened::Rows(rows)
-        }
-        Checked::Refused(x) => Opened::Refused(x),
+    judge(bundle)?;
+    let rows = bundle_parts::row_count(bundle);
+    if bundle_parts::is_old(bundle) {
+        old_rows::read(&bundle[HEADER..], table, rows);
+        return Ok(rows);
     }
+    little_endian::read_words(&bundle[HEADER..], table, rules::WIDTH * rows);
+    Ok(rows)
 }
 
 // Refusals 30 to 32, and 1.
-fn judge(bundle: &[u8]) -> Checked
+fn judge(bundle: &[u8]) -> Result<(), Refusal>
     ensures { result ≡ verdict (opening_refusal bundle.now) }
 {
     if wrong_mark(bundle) {
-        return Checked::Refused(Refusal::Mark);
+        return Err(Refusal::Mark);
     }
     if other_version(bundle) {
-        return Checked::Refused(Refusal::Version);
+        return Err(Refusal::Version);
     }
     if bad_lengths(bundle) {
-        return Checked::Refused(Refusal::Lengths);
+        return Err(Refusal::Lengths);
     }
     if bundle_parts::row_count(bundle) > rules::MOST_ROWS {
-        return Checked::Refused(Refusal::Size);
+        return Err(Refusal::Size);
     }
     if bundle_parts::pool_length(bundle) > rules::MOST_BYTES {
-        return Checked::Refused(Refusal::Size);
+        return Err(Refusal::Size);
     }
-    Checked::Accepted
+    Ok(())
 }
 
 // 30: another mark, or the bytes end before it is whole.

@@ -9,8 +9,7 @@ ghost use Rattle.packing.specs.Packing.{packed_into, bundle_packed};
 ghost use Rattle.packer.specs.Lent.{Lent};
 ghost use Rattle.packed_bundle.specs.Leaving.{Leaves};
 
-use bundle_opening::Opened;
-use rules::{Checked, Written};
+use rules::Refusal;
 
 // The words of the largest table, and of a small one.
 const WORDS: usize = rules::WIDTH * rules::MOST_ROWS;
@@ -19,7 +18,7 @@ const FEW_WORDS: usize = rules::WIDTH * table_size::FEW_ROWS;
 
 // Packs a bundle into a bundle whose pool is each distinct non-empty field once, end to end, in order of first use. Success answers
 // the bytes that it takes; the rest of the output is zero, and all of it after a refusal.
-pub fn pack(bundle: &[u8], out: &mut [u8]) -> Written
+pub fn pack(bundle: &[u8], out: &mut [u8]) -> Result<usize, Refusal>
     ensures value { result ≡ (bundle_packed bundle.now (length out.old)).answer }
     ensures out_after { out.new ≡ (bundle_packed bundle.now (length out.old)).bytes }
 {
@@ -33,13 +32,13 @@ pub fn pack(bundle: &[u8], out: &mut [u8]) -> Written
 }
 
 // Packs any bundle. Two places call it, so that it keeps its arrays, which are large, to itself.
-fn pack_any(bundle: &[u8], out: &mut [u8]) -> Written
+fn pack_any(bundle: &[u8], out: &mut [u8]) -> Result<usize, Refusal>
     ensures value { result ≡ (bundle_packed bundle.now (length out.old)).answer }
     ensures out_after { out.new ≡ (bundle_packed bundle.now (length out.old)).bytes }
 {
     let mut words = [0; WORDS];
     match bundle_opening::read_rows(bundle, &mut words) {
-        Opened::Rows(n) => {
+        Ok(n) => {
             let table = bundle_parts::table(&words, n);
             let pool = bundle_parts::pool(bundle);
             let mut packed = [0; WORDS];
@@ -58,19 +57,19 @@ fn pack_any(bundle: &[u8], out: &mut [u8]) -> Written
                 out,
             )
         }
-        Opened::Refused(x) => bundles::refuse(out, x),
+        Err(x) => bundles::refuse(out, x),
     }
 }
 
 // Packs a bundle of few rows.
-fn pack_few(bundle: &[u8], out: &mut [u8]) -> Written
+fn pack_few(bundle: &[u8], out: &mut [u8]) -> Result<usize, Refusal>
     requires { NamesAtMost bundle.now FEW_ROWS }
     ensures value { result ≡ (bundle_packed bundle.now (length out.old)).answer }
     ensures out_after { out.new ≡ (bundle_packed bundle.now (length out.old)).bytes }
 {
     let mut words = [0; FEW_WORDS];
     match bundle_opening::read_rows(bundle, &mut words) {
-        Opened::Rows(n) => {
+        Ok(n) => {
             let table = bundle_parts::table(&words, n);
             let pool = bundle_parts::pool(bundle);
             let mut packed = [0; FEW_WORDS];
@@ -89,7 +88,7 @@ fn pack_few(bundle: &[u8], out: &mut [u8]) -> Written
                 out,
             )
         }
-        Opened::Refused(x) => bundles::refuse(out, x),
+        Err(x) => bundles::refuse(out, x),
     }
 }
 
@@ -103,15 +102,15 @@ fn pack_lent(
     starts: &mut [u16],
     packed: &mut [u32],
     out: &mut [u8],
-) -> Written
+) -> Result<usize, Refusal>
     requires lent { Lent table.now dictionary.old notes.old index.old starts.old }
     requires table_in_bounds { length table.now ≤ length packed.old }
     ensures { Leaves (packed_into table.now pool.now (length out.old)) result out.new }
 {
     match checker::check_numbered(table, pool, dictionary, notes) {
-        Checked::Accepted => {
+        Ok(()) => {
             packed_bundle::pack(table, pool, dictionary, notes, index, starts, packed, out)
         }
-        Checked::Refused(x) => bundles::refuse(out, x),
+        Err(x) => bundles::refuse(out, x),
     }
 }

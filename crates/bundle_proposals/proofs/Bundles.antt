@@ -1,5 +1,6 @@
 -- What opening the two bundles tells.
 -- Assumes nothing.
+use Rattle.std.specs.Prelude.{Err}
 use Prim.Native.Nat.{ℕ, ◌*◌}
 use mathlib.Core.Path.{◌≡◌, refl}
 use mathlib.Core.List.{List}
@@ -9,7 +10,6 @@ use Rattle.rules.specs.Table.{WIDTH}
 use Rattle.rules.specs.Answers.{number_of}
 use Rattle.rules.specs.Refusals.{check_refusal}
 use Rattle.rules.specs.declared.Refusal.{Refusal}
-use Rattle.rules.specs.declared.Checked.{Checked}
 use Rattle.bundles.specs.Bundles.{bundle_pool}
 use Rattle.bundles.specs.Opening.{opening_refusal, Opens}
 use Rattle.proposals.specs.Proposals.{failed, judged, proposal_refusal, proposal_checked, bundle_check_refusal, bundle_proposal_checked}
@@ -17,12 +17,12 @@ use Rattle.bundle_proposals.proofs.Opening.{opening-fails, opened-check}
 use Rattle.bundle_proposals.specs.Opened.{opened_checked}
 
 -- The original is no bundle, or fails the check: 40.
-pub original-fails : (original proposal : List ℕ) (x : Refusal) → bundle_check_refusal original ≡ some x → Checked.Refused (Refusal.Original (record { 0 = (number_of x).row }) (number_of x).word) ≡ bundle_proposal_checked original proposal
+pub original-fails : (original proposal : List ℕ) (x : Refusal) → bundle_check_refusal original ≡ some x → Err (Refusal.Original (record { 0 = (number_of x).row }) (number_of x).word) ≡ bundle_proposal_checked original proposal
 unfolding bundle_proposal_checked judged failed
 original-fails original proposal x e = rw e refl
 
 -- The proposal is no bundle: 41.
-pub proposal-unopened : (table pool bytes : List ℕ) → check_refusal table pool ≡ none → (x : Refusal) → opening_refusal bytes ≡ some x → Checked.Refused (Refusal.Proposal (record { 0 = (number_of x).row }) (number_of x).word) ≡ opened_checked table pool bytes
+pub proposal-unopened : (table pool bytes : List ℕ) → check_refusal table pool ≡ none → (x : Refusal) → opening_refusal bytes ≡ some x → Err (Refusal.Proposal (record { 0 = (number_of x).row }) (number_of x).word) ≡ opened_checked table pool bytes
 unfolding judged failed
 proposal-unopened table pool bytes accepted x e = rw (accepted, opening-fails bytes x e) refl
 

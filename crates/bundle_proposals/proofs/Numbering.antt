@@ -1,5 +1,6 @@
 -- What reading and checking a bundle answers.
 -- Assumes nothing.
+use Rattle.std.specs.Prelude.{Result, Ok, Err, ⊤}
 use Prim.Native.Nat.{ℕ, ◌*◌, ◌≤◌}
 use mathlib.Core.Path.{◌≡◌, sym, subst}
 use mathlib.Core.Bool.{true, false, true≢false}
@@ -10,12 +11,10 @@ use lib.ListN.{length, take, replicate, length-replicate}
 use Rattle.rules.specs.Table.{WIDTH, MOST_ROWS, row_count}
 use Rattle.rules.specs.Refusals.{check_refusal, checked}
 use Rattle.rules.specs.declared.Refusal.{Refusal}
-use Rattle.rules.specs.declared.Checked.{Checked}
 use Rattle.notes.specs.Notes.{NOTES}
 use Rattle.bundles.specs.Bundles.{HEADER, bundle_rows, bundle_pool}
 use Rattle.bundles.specs.Opening.{NamesAtMost, Opens}
 use Rattle.bundles.proofs.Opening.{opened-few}
-use Rattle.bundle_opening.specs.declared.Opened.{Opened}
 use Rattle.proposals.specs.Proposals.{bundle_check_refusal}
 use Rattle.name_pairs.specs.Noted.{Noted}
 use Rattle.proposal_check.proofs.Order.{accepted, refused}
@@ -29,7 +28,7 @@ new-notes bytes most u fits header few =
     omega (arith, fits header few)
 
 -- What fails the check.
-pub fails : (bytes buffer notes : List ℕ) (x : Refusal) → bundle_check_refusal bytes ≡ some x → Numbers bytes buffer notes (Opened.Refused x)
+pub fails : (bytes buffer notes : List ℕ) (x : Refusal) → bundle_check_refusal bytes ≡ some x → Numbers bytes buffer notes (Err x)
 fails bytes buffer notes x is = (λ n e. let bad : true ≡ false = cc in absurd (true≢false bad), λ y e. let same : x ≡ y = cc in subst (λ (z : Refusal). bundle_check_refusal bytes ≡ some z) same is)
 
 -- A bundle that opens: its rows as a table.
@@ -46,11 +45,11 @@ module _ (bytes buffer : List ℕ) (n : ℕ) (opens : Opens bytes buffer n) (tab
       let enough = room (omega arith) (omega arith) in
       omega arith
 
-  module _ (pool notes : List ℕ) (rest : pool ≡ bundle_pool bytes) {answer : Checked} (told : answer ≡ checked table pool) where
-    pub check-fails : (x : Refusal) → answer ≡ Checked.Refused x → Numbers bytes buffer notes (Opened.Refused x)
+  module _ (pool notes : List ℕ) (rest : pool ≡ bundle_pool bytes) {answer : Result ⊤ Refusal} (told : answer ≡ checked table pool) where
+    pub check-fails : (x : Refusal) → answer ≡ Err x → Numbers bytes buffer notes (Err x)
     check-fails x is = fails bytes buffer notes x (opened-refused bytes buffer n opens table pool first rest x (refused table pool told x is))
 
-    pub numbered : answer ≡ Checked.Accepted → Noted table pool notes → Numbers bytes buffer notes (Opened.Rows n)
+    pub numbered : answer ≡ Ok tt → Noted table pool notes → Numbers bytes buffer notes (Ok n)
     numbered is noted = (
       λ m e.
           let same : n ≡ m = cc in

@@ -1,5 +1,5 @@
 -- A bundle that is read and checked, and whose names have numbers.
-use Rattle.std.specs.Prelude.{ℕ, ◌*◌, ◌≤◌, ◌≡◌, List, length, take}
+use Rattle.std.specs.Prelude.{ℕ, ◌*◌, ◌≤◌, ◌≡◌, List, length, take, Result, Ok, Err}
 use Rattle.std.proofs.Math.Option.{none, some}
 use Rattle.rules.specs.Table.{WIDTH, MOST_ROWS}
 use Rattle.rules.specs.Refusals.{check_refusal}
@@ -7,7 +7,6 @@ use Rattle.rules.specs.declared.Refusal.{Refusal}
 use Rattle.notes.specs.Notes.{NOTES}
 use Rattle.bundles.specs.Bundles.{HEADER, bundle_rows, bundle_pool}
 use Rattle.bundles.specs.Opening.{Opens}
-use Rattle.bundle_opening.specs.declared.Opened.{Opened}
 use Rattle.proposals.specs.Proposals.{bundle_check_refusal}
 use Rattle.name_pairs.specs.Noted.{Noted}
 
@@ -22,6 +21,6 @@ pub record Numbered (bytes buffer notes : List ℕ) (n : ℕ) : Type 0 where
   pub noted : Noted (take (WIDTH * n) buffer) (bundle_pool bytes) notes
 
 -- What reading and checking the bytes answers: the rows, with their numbers, or the refusal.
-abbrev pub Numbers : List ℕ → List ℕ → List ℕ → Opened → Type 0
+abbrev pub Numbers : List ℕ → List ℕ → List ℕ → Result ℕ Refusal → Type 0
 Numbers bytes buffer notes answer =
-    ((n : ℕ) → answer ≡ Opened.Rows n → Numbered bytes buffer notes n) × ((x : Refusal) → answer ≡ Opened.Refused x → bundle_check_refusal bytes ≡ some x)
+    ((n : ℕ) → answer ≡ Ok n → Numbered bytes buffer notes n) × ((x : Refusal) → answer ≡ Err x → bundle_check_refusal bytes ≡ some x)

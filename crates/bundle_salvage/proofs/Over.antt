@@ -1,5 +1,6 @@
 -- What the salvage of a bundle is: that of its table and its pool, unless opening refuses.
 -- Assumes nothing.
+use Rattle.std.specs.Prelude.{Result}
 use Prim.Native.Nat.{ℕ, ◌*◌, ◌/◌, ◌≤◌}
 use mathlib.Core.Path.{◌≡◌, refl, ap, ◌∙◌}
 use mathlib.Core.Bool.{Bool, true, false}
@@ -11,13 +12,13 @@ use lib.Seq.{length-take-le}
 use Rattle.rules.specs.Table.{WIDTH}
 use Rattle.rules.specs.Refusals.{refused_if, first_refusal, unless_refused, bad_size}
 use Rattle.rules.specs.declared.Refusal.{Refusal}
-use Rattle.rules.specs.declared.Salvaged.{Salvaged}
 use Rattle.bundles.specs.Bundles.{bundle_refusal, bundle_table, bundle_pool}
 use Rattle.bundles.specs.Opening.{opening_refusal, NamesAtMost, Opens}
 use Rattle.bundles.proofs.Opening.{bundle-agreed}
 use Rattle.bundles.proofs.Over.{over-open}
 use Rattle.salvage.specs.Salvage.{fault_refusal, salvage_refusal, salvaged, rescue_refused, rescued, bundle_salvaged}
 use Rattle.salvaged_bundle.specs.Kept.{Kept}
+use Rattle.rules.specs.declared.Salvaged.{Salvaged}
 
 -- Opening refuses with 1 what salvage refuses with 1.
 size-refused : (table pool : List ℕ) (size list_size : ℕ) → bad_size table pool ≡ true → rescued table pool size list_size ≡ rescue_refused size list_size Refusal.Size
@@ -47,7 +48,7 @@ module _ {bytes buffer : List ℕ} {n : ℕ} (is : Opens bytes buffer n) {table 
 
   -- What salvage left is that of its table, which had room.
   pub kept_table :
-      {answer : Salvaged} {left list pool : List ℕ} (room list_size : ℕ) → n ≤ room / WIDTH → length left ≡ room → length list ≡ list_size
+      {answer : Result Salvaged Refusal} {left list pool : List ℕ} (room list_size : ℕ) → n ≤ room / WIDTH → length left ≡ room → length list ≡ list_size
       → answer ≡ (salvaged table pool room list_size).answer → left ≡ (salvaged table pool room list_size).table → list ≡ (salvaged table pool room list_size).list → Kept answer left pool list table
   kept_table room list_size fits size long a b c =
       let count : length table ≡ WIDTH * n = ap length t ∙ length-take-le (WIDTH * n) buffer is.room in

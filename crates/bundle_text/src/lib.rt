@@ -7,8 +7,7 @@ ghost use Rattle.table_size.specs.Small.{FEW_ROWS};
 ghost use Rattle.bundles.specs.Opening.{NamesAtMost};
 ghost use Rattle.markup.specs.Writing.{bundle_text};
 
-use bundle_opening::Opened;
-use rules::{Row, Written};
+use rules::{Refusal, Row};
 
 // The words of the largest table, and of a small one.
 const WORDS: usize = rules::WIDTH * rules::MOST_ROWS;
@@ -17,7 +16,7 @@ const FEW_WORDS: usize = rules::WIDTH * table_size::FEW_ROWS;
 
 // Writes the XML text of an element, or of a document's element. Success answers the bytes that it takes; the rest of the output
 // is zero, and all of it after a refusal.
-pub fn write_xml(bundle: &[u8], row: Row, out: &mut [u8]) -> Written
+pub fn write_xml(bundle: &[u8], row: Row, out: &mut [u8]) -> Result<usize, Refusal>
     ensures value { result ≡ (bundle_text bundle.now row.0 (length out.old)).answer }
     ensures out_after { out.new ≡ (bundle_text bundle.now row.0 (length out.old)).bytes }
 {
@@ -32,32 +31,32 @@ pub fn write_xml(bundle: &[u8], row: Row, out: &mut [u8]) -> Written
 
 // Writes the text from any bundle. Two places call it, and it alone calls `writer::write`, so that it keeps its
 // arrays, which are large, to itself.
-fn write_any(bundle: &[u8], row: Row, out: &mut [u8]) -> Written
+fn write_any(bundle: &[u8], row: Row, out: &mut [u8]) -> Result<usize, Refusal>
     ensures value { result ≡ (bundle_text bundle.now row.0 (length out.old)).answer }
     ensures out_after { out.new ≡ (bundle_text bundle.now row.0 (length out.old)).bytes }
 {
     let mut words = [0; WORDS];
     match bundle_opening::read_rows(bundle, &mut words) {
-        Opened::Rows(n) => {
+        Ok(n) => {
             let pool = bundle_parts::pool(bundle);
             writer::write(bundle_parts::table(&words, n), pool, row, out)
         }
-        Opened::Refused(x) => bundles::refuse(out, x),
+        Err(x) => bundles::refuse(out, x),
     }
 }
 
 // Writes the text from a bundle of few rows.
-fn write_few(bundle: &[u8], row: Row, out: &mut [u8]) -> Written
+fn write_few(bundle: &[u8], row: Row, out: &mut [u8]) -> Result<usize, Refusal>
     requires { NamesAtMost bundle.now FEW_ROWS }
     ensures value { result ≡ (bundle_text bundle.now row.0 (length out.old)).answer }
     ensures out_after { out.new ≡ (bundle_text bundle.now row.0 (length out.old)).bytes }
 {
     let mut words = [0; FEW_WORDS];
     match bundle_opening::read_rows(bundle, &mut words) {
-        Opened::Rows(n) => {
+        Ok(n) => {
             let pool = bundle_parts::pool(bundle);
             writer::write_few(bundle_parts::table(&words, n), pool, row, out)
         }
-        Opened::Refused(x) => bundles::refuse(out, x),
+        Err(x) => bundles::refuse(out, x),
     }
 }

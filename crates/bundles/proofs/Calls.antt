@@ -1,5 +1,6 @@
 -- What normalization writes passes the check; reading and writing undo each other, as the calls answer.
 -- Assumes nothing.
+use Rattle.std.specs.Prelude.{Ok}
 use Prim.Native.Nat.{ℕ, ◌-◌, ◌*◌, ◌/◌, ◌%◌, ◌≤◌}
 use mathlib.Core.Path.{◌≡◌, refl, sym, ap, ◌∙◌}
 use mathlib.Core.Bool.{true, false}
@@ -17,7 +18,6 @@ use Rattle.rules.specs.Refusals.{refused_if, first_refusal, unless_refused, chec
 use Rattle.rules.specs.Outputs.{padded, Outcome, refusal, filled}
 use Rattle.rules.specs.Normalization.{success, normalization_refusal}
 use Rattle.rules.specs.declared.Refusal.{Refusal}
-use Rattle.rules.specs.declared.Checked.{Checked}
 use Rattle.rules.proofs.Lists.{T_true, true-not-false}
 use Rattle.rules.proofs.Refusals.{all_none}
 use Rattle.rules.proofs.Table.{length-words}
@@ -36,14 +36,14 @@ use Rattle.bundles.proofs.Demand3.{result, normal, success-told, stands, done-un
 
 -- The result of a normalization passes the check, and so does its bundle.
 module _ (table pool : List ℕ) (none? : normalization_refusal table pool (WIDTH * MOST_ROWS) MOST_BYTES ≡ none) where
-  passes : checked (words (result table pool none?).rows) (result table pool none?).pool ≡ Checked.Accepted
+  passes : checked (words (result table pool none?).rows) (result table pool none?).pool ≡ Ok tt
   unfolding success filled_rows filled_bytes padded
   passes =
       let made = result table pool none? in
       let again = passes-again table pool (WIDTH * MOST_ROWS) MOST_BYTES (success-told table pool none?) in
       rw (normal table pool none?, take_at (words made.rows) (replicate (WIDTH * MOST_ROWS - length (words made.rows)) 0) (WIDTH * length made.rows) (length-words made.rows), take_at made.pool (replicate (MOST_BYTES - length made.pool) 0) (length made.pool) refl) at again
 
-  bundle-passes : all_of is_word table ≡ true → bundle_checked (state_bundle (result table pool none?)) ≡ Checked.Accepted
+  bundle-passes : all_of is_word table ≡ true → bundle_checked (state_bundle (result table pool none?)) ≡ Ok tt
   unfolding bundle_checked
   bundle-passes all =
       let back = stands table pool none? all in

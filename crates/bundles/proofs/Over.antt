@@ -1,5 +1,7 @@
 -- What an operation over bundle bytes answers, once opening the bundle has answered.
 -- Assumes nothing.
+use Rattle.std.specs.Prelude.{Err}
+use Rattle.rules.specs.Answers.{Located, Lookup}
 use Prim.Native.Nat.{ℕ, ◌*◌, ◌≤◌}
 use mathlib.Core.Path.{◌≡◌, refl, sym, ap, ◌∙◌}
 use mathlib.Core.Bool.{Bool, true, false}
@@ -13,9 +15,6 @@ use Rattle.rules.specs.Lookups.{is_default, without_built_ins, lookup_elements, 
 use Rattle.rules.specs.Normalization.{normalization_refusal}
 use Rattle.rules.specs.declared.Refusal.{Refusal}
 use Rattle.rules.specs.declared.Question.{Question}
-use Rattle.rules.specs.declared.Checked.{Checked}
-use Rattle.rules.specs.declared.Located.{Located}
-use Rattle.rules.specs.declared.Bound.{Bound}
 use Rattle.rules.proofs.DefaultUri.{default-test}
 use Rattle.bundles.specs.Bundles.{bundle_refusal, bundle_table, bundle_pool}
 use Rattle.rules.specs.Outputs.{refusal}
@@ -25,7 +24,7 @@ use Rattle.bundles.specs.Demands.{bundle_nodes, BundleDefaultTest}
 
 -- A table that the check refuses is refused by every operation.
 module _ (table pool : List ℕ) (x : Refusal) (e : check_refusal table pool ≡ some x) where
-  checked_refused : checked table pool ≡ Checked.Refused x
+  checked_refused : checked table pool ≡ Err x
   unfolding checked
   checked_refused = rw e refl
 
@@ -33,7 +32,7 @@ module _ (table pool : List ℕ) (x : Refusal) (e : check_refusal table pool ≡
   unfolding lookup_refusal
   lookup-refused r = rw e refl
 
-  answer-refused : (question : Question) (r : ℕ) (q : List ℕ) → lookup_at question table pool r q ≡ Bound.Refused x
+  answer-refused : (question : Question) (r : ℕ) (q : List ℕ) → lookup_at question table pool r q ≡ Err x
   unfolding lookup_at
   answer-refused question r q = rw (lookup-refused r) refl
 
@@ -70,13 +69,13 @@ module _ (bytes : List ℕ) where
 
 -- What each operation answers where opening refuses.
 module _ (bytes : List ℕ) (x : Refusal) (e : opening_refusal bytes ≡ some x) where
-  pub check-not-open : bundle_checked bytes ≡ Checked.Refused x
+  pub check-not-open : bundle_checked bytes ≡ Err x
   unfolding bundle_checked
-  check-not-open = over-refused bytes Checked.Refused checked x e (checked_refused _ _ Refusal.Size)
+  check-not-open = over-refused bytes Err checked x e (checked_refused _ _ Refusal.Size)
 
-  pub lookup-not-open : (question : Question) (r : ℕ) (q : List ℕ) → bundle_lookup question bytes r q ≡ Bound.Refused x
+  pub lookup-not-open : (question : Question) (r : ℕ) (q : List ℕ) → bundle_lookup question bytes r q ≡ Err x
   unfolding bundle_lookup
-  lookup-not-open question r q = over-refused bytes Bound.Refused (λ t p. lookup_at question t p r q) x e (λ s. answer-refused _ _ Refusal.Size s question r q)
+  lookup-not-open question r q = over-refused bytes Err (λ t p. lookup_at question t p r q) x e (λ s. answer-refused _ _ Refusal.Size s question r q)
 
   pub read-not-open : (table_size pool_size : ℕ) → bundle_read bytes table_size pool_size ≡ refusal table_size pool_size x
   unfolding bundle_read
@@ -99,11 +98,11 @@ module _ (bytes buffer : List ℕ) (n : ℕ) (is : Opens bytes buffer n) (pool :
 
   pub check-open : checked (take (WIDTH * n) buffer) pool ≡ bundle_checked bytes
   unfolding bundle_checked
-  check-open = over-open Checked.Refused checked
+  check-open = over-open Err checked
 
   pub lookup-open : (question : Question) (r : ℕ) (q : List ℕ) → lookup_at question (take (WIDTH * n) buffer) pool r q ≡ bundle_lookup question bytes r q
   unfolding bundle_lookup
-  lookup-open question r q = over-open Bound.Refused (λ t p. lookup_at question t p r q)
+  lookup-open question r q = over-open Err (λ t p. lookup_at question t p r q)
 
   pub read-open : (table_size pool_size : ℕ) → table_read (take (WIDTH * n) buffer) pool table_size pool_size ≡ bundle_read bytes table_size pool_size
   unfolding bundle_read
@@ -116,8 +115,8 @@ module _ (bytes buffer : List ℕ) (n : ℕ) (is : Opens bytes buffer n) (pool :
 -- An answer without built-ins is refused as the lookup is.
 module _ (bytes : List ℕ) (r : ℕ) where
   plain_over :
-      (o : Option Refusal) (found : Bound)
-      → without_built_ins (unless_refused o Bound.Refused found) ≡ unless_refused o Located.Refused (without_built_ins found)
+      (o : Option Refusal) (found : Lookup)
+      → without_built_ins (unless_refused o Err found) ≡ unless_refused o Err (without_built_ins found)
   unfolding without_built_ins
   plain_over none found = refl
   plain_over (some x) found = refl
@@ -138,8 +137,8 @@ bundle-default-test bytes r unrefused uri = go (bundle_refusal bytes) unrefused
     answer = default_uri_at (bundle_table bytes) (bundle_pool bytes) r
 
     go :
-        (o : Option Refusal) → ((x : Refusal) → unless_refused o Located.Refused answer ≡ Located.Refused x → ⊥)
-        → same_bytes (located_part (bundle_pool bytes) (unless_refused o Located.Refused answer)) uri
+        (o : Option Refusal) → ((x : Refusal) → unless_refused o Err answer ≡ Err x → ⊥)
+        → same_bytes (located_part (bundle_pool bytes) (unless_refused o Err answer)) uri
         ≡ is_default (bundle_nodes bytes) uri (lookup_elements (bundle_nodes bytes) r)
     go none open? = default-test (bundle_table bytes) (bundle_pool bytes) r open? uri
     go (some x) open? = absurd (open? x refl)

@@ -1,6 +1,7 @@
 -- A bundle of the version before makers stands for the table without makers that it was written of, and every operation answers
 -- of it what it answers of the bundle that is written of that table.
 -- Assumes nothing.
+use Rattle.std.specs.Prelude.{Err}
 use Prim.Native.Nat.{ℕ, ◌*◌}
 use mathlib.Core.Path.{◌≡◌, refl, sym, ap, ◌∙◌}
 use mathlib.Core.Bool.{true, ◌||◌}
@@ -15,9 +16,6 @@ use Rattle.rules.specs.Refusals.{unless_refused, checked}
 use Rattle.rules.specs.Lookups.{lookup_at, prefix_of_uri_at, default_uri_at}
 use Rattle.rules.specs.Outputs.{refusal}
 use Rattle.rules.specs.declared.Refusal.{Refusal}
-use Rattle.rules.specs.declared.Checked.{Checked}
-use Rattle.rules.specs.declared.Located.{Located}
-use Rattle.rules.specs.declared.Bound.{Bound}
 use Rattle.little_endian.specs.Numbers.{is_byte, is_word, word_bytes, words_from}
 use Rattle.little_endian.proofs.Numbers.{number_small, all_drop, words-written, length-words_from}
 use Rattle.bundles.specs.Bundles.{VERSION, OLD_VERSION, HEADER, OLD_WIDTH, bundle_version, bundle_rows, is_old, row_bytes, widened, bundle_table, bundle_pool}
@@ -116,10 +114,10 @@ pub answers-renewed : AnswersRenewed
 unfolding bundle_checked bundle_lookup bundle_prefix_of_uri bundle_default_uri bundle_read bundle_normalized
 answers-renewed bytes all e =
     record {
-      check = renewed-answers _ Checked.Refused checked bytes all e;
-      lookup = λ question row query. renewed-answers _ Bound.Refused (λ t p. lookup_at question t p row query) bytes all e;
-      prefix_of_uri = λ row uri. renewed-answers _ Located.Refused (λ t p. prefix_of_uri_at t p row uri) bytes all e;
-      default_uri = λ row. renewed-answers _ Located.Refused (λ t p. default_uri_at t p row) bytes all e;
+      check = renewed-answers _ Err checked bytes all e;
+      lookup = λ question row query. renewed-answers _ Err (λ t p. lookup_at question t p row query) bytes all e;
+      prefix_of_uri = λ row uri. renewed-answers _ Err (λ t p. prefix_of_uri_at t p row uri) bytes all e;
+      default_uri = λ row. renewed-answers _ Err (λ t p. default_uri_at t p row) bytes all e;
       read = λ table_size pool_size. renewed-answers _ (refusal table_size pool_size) (λ t p. table_read t p table_size pool_size) bytes all e;
       normalized = λ size. renewed-answers _ (write_refused size) (λ t p. normalized_into t p size) bytes all e;
     }

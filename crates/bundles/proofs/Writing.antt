@@ -1,5 +1,6 @@
 -- How long a bundle is, and what a refused write leaves in the output.
 -- Assumes nothing.
+use Rattle.std.specs.Prelude.{Err}
 use Prim.Native.Nat.{ℕ, ◌+◌, ◌-◌, ◌*◌}
 use mathlib.Core.Path.{◌≡◌, refl, ap, ◌∙◌}
 use mathlib.Core.List.{List, ◌++◌}
@@ -7,7 +8,6 @@ use native.Mathlib.Omega.{arith}
 use lib.ListN.{length, replicate, length-append}
 use Rattle.rules.specs.Table.{row_count}
 use Rattle.rules.specs.declared.Refusal.{Refusal}
-use Rattle.rules.specs.declared.Written.{Written}
 use Rattle.buffers.specs.Writes.{cleared}
 use Rattle.little_endian.specs.Numbers.{word_bytes}
 use Rattle.little_endian.proofs.Numbers.{length-word_bytes}
@@ -27,7 +27,7 @@ unfolding write_bundle
 length-bundle table pool = length-any VERSION (row_count table) table pool
 
 -- A refused write.
-pub refused-left : (out left : List ℕ) (x : Refusal) → left ≡ cleared out 0 → (Written.Refused x ≡ (write_refused (length out) x).answer) × (left ≡ (write_refused (length out) x).bytes)
+pub refused-left : (out left : List ℕ) (x : Refusal) → left ≡ cleared out 0 → (Err x ≡ (write_refused (length out) x).answer) × (left ≡ (write_refused (length out) x).bytes)
 unfolding write_refused
 refused-left out left x e =
     let all : length out - 0 ≡ length out = omega arith in

@@ -1,10 +1,9 @@
 -- RULES 11.7 and 11.8 as the calls answer: what normalization writes passes the check; reading gives back what was written, and
 -- writing what was read. They speak of the answered parts of the outputs.
-use Rattle.std.specs.Prelude.{ℕ, ◌*◌, ◌/◌, ◌≤◌, ◌≡◌, Bool, true, List, length, take, T, eqb}
+use Rattle.std.specs.Prelude.{ℕ, ◌*◌, ◌/◌, ◌≤◌, ◌≡◌, Bool, true, List, length, take, T, eqb, Ok}
 use Rattle.rules.specs.Lists.{all_of}
 use Rattle.rules.specs.Table.{WIDTH, row_count}
 use Rattle.rules.specs.Answers.{filled_number, filled_rows, filled_bytes}
-use Rattle.rules.specs.declared.Checked.{Checked}
 use Rattle.little_endian.specs.Numbers.{is_byte, is_word}
 use Rattle.rules.specs.Outputs.{Outcome}
 use Rattle.bundles.specs.Bundles.{VERSION, bundle_version}
@@ -30,7 +29,7 @@ pub record Writes (o : WriteOutcome) (bundle : List ℕ) : Type 0 where
 abbrev pub NormalizedPasses : Type 0
 NormalizedPasses =
     (bytes : List ℕ) (size : ℕ) → all_of is_byte bytes ≡ true → T (bundle_done (bundle_normalized bytes size)) →
-    bundle_checked (result_bundle (bundle_normalized bytes size)) ≡ Checked.Accepted
+    bundle_checked (result_bundle (bundle_normalized bytes size)) ≡ Ok tt
 
 -- What was written is read back, into outputs that have room.
 abbrev pub ReadsWritten : Type 0

@@ -4,7 +4,7 @@
 ghost use Rattle.std.specs.Prelude.{◌≡◌, length};
 ghost use Rattle.bundles.specs.Operations.{write_refused};
 
-use rules::{Refusal, Written};
+use rules::Refusal;
 
 // The bytes before the rows, and the bytes of a row. Before rows had makers they had ten words.
 pub const HEADER: usize = 12;
@@ -23,10 +23,10 @@ pub const VERSION: u8 = 2;
 pub const OLD_VERSION: u8 = 1;
 
 // Refuses, and clears the output.
-pub fn refuse(out: &mut [u8], why: Refusal) -> Written
+pub fn refuse(out: &mut [u8], why: Refusal) -> Result<usize, Refusal>
     ensures value { result ≡ (write_refused (length out.old) why).answer }
     ensures out_after { out.new ≡ (write_refused (length out.old) why).bytes }
 {
     buffers::clear_bytes(out, 0);
-    Written::Refused(why)
+    Err(why)
 }

@@ -5,17 +5,9 @@ ghost use Rattle.std.specs.Prelude.{◌<◌, ◌≤◌, length};
 pub fn read(text: &[u8], out: &mut [u8]) -> usize
     ensures { result ≤ length out.new }
 {
-    let mut count: usize = 0;
-    while count < out.len() {
-        if text.len() / 3 < count {
-            return count;
-        }
-        let at = count * 3;
-        if text.len() - at < 2 {
-            return count;
-        }
-        out[count] = digit(text[at]) * 16 + digit(text[at + 1]);
-        count += 1;
+    let count = out.len().min((text.len() + 1) / 3);
+    for (i, byte) in out[..count].iter_mut().enumerate() {
+        *byte = digit(text[3 * i]) * 16 + digit(text[3 * i + 1]);
     }
     count
 }

@@ -4,6 +4,7 @@ use crate::lookup_report::{compared, found};
 use crate::parts::{part, piece};
 use crate::texts::quote;
 use crate::{texts, words};
+use answers::Found;
 use rules::Row;
 use std::io;
 
@@ -12,31 +13,18 @@ const FIRST_ROW: usize = 5;
 
 // The rows to ask, if there are any, have numbers that can be read.
 pub fn has_rows(line: &[u8]) -> bool {
-    let mut number: usize = FIRST_ROW;
-    while number < line.len() {
-        let name = part(line, number);
-        if name.len() == 0 {
-            return true;
-        }
-        if !words::are_numbers(piece(name, 0, b' ')) {
-            return false;
-        }
-        number += 1;
-    }
-    true
+    line.split(|byte| *byte == b'|')
+        .skip(FIRST_ROW)
+        .take_while(|name| !name.is_empty())
+        .all(|name| words::are_numbers(piece(name, 0, b' ')))
 }
 
 // The five lookups from each row.
 pub fn case(rt: &impl Print, line: &[u8], table: &[u32], pool: &[u8]) -> io::Result<()> {
-    let mut number: usize = FIRST_ROW;
-    while number < line.len() {
-        let name = part(line, number);
-        if name.len() == 0 {
-            return Ok(());
-        }
+    let names = line.split(|byte| *byte == b'|').skip(FIRST_ROW);
+    for name in names.take_while(|name| !name.is_empty()) {
         rt.write_all(name)?;
         lookups(rt, table, pool, numbered(name), line)?;
-        number += 1;
     }
     Ok(())
 }
@@ -82,9 +70,9 @@ fn by_names(
     prefix: &[u8],
     uri: &[u8],
 ) -> io::Result<()> {
-    let of_prefix = answers::bound(lookups::uri_of_prefix(table, pool, row, prefix));
+    let of_prefix = Found::from(lookups::uri_of_prefix(table, pool, row, prefix));
     found(rt, texts::URI, of_prefix, texts::NOTHING)?;
-    let of_uri = answers::located(lookups::prefix_of_uri(table, pool, row, uri));
+    let of_uri = Found::from(lookups::prefix_of_uri(table, pool, row, uri));
     found(rt, texts::PREFIX, of_uri, texts::NOTHING)
 }
 
@@ -96,14 +84,14 @@ fn by_declarations(
     prefix: &[u8],
     uri: &[u8],
 ) -> io::Result<()> {
-    let of_prefix = answers::bound(lookups::in_scope_uri(table, pool, row, prefix));
+    let of_prefix = Found::from(lookups::in_scope_uri(table, pool, row, prefix));
     found(rt, texts::IN_SCOPE_URI, of_prefix, texts::NONE)?;
-    let of_uri = answers::bound(lookups::in_scope_prefix(table, pool, row, uri));
+    let of_uri = Found::from(lookups::in_scope_prefix(table, pool, row, uri));
     found(rt, texts::PREFIX, of_uri, texts::NONE)
 }
 
 // The default URI is asked for, and compared with the one that is given.
 fn default(rt: &impl Print, table: &[u32], pool: &[u8], row: Row, uri: &[u8]) -> io::Result<()> {
-    let default_uri = answers::located(lookups::default_uri(table, pool, row));
+    let default_uri = Found::from(lookups::default_uri(table, pool, row));
     compared(rt, pool, default_uri, uri)
 }

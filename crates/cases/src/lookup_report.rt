@@ -1,6 +1,7 @@
 // What the lookups answer, as text.
 use crate::texts;
-use answers::{Found, Number};
+use answers::Found;
+use refusal_numbers::Number;
 use std::io;
 
 // A refusal, a place, a built-in, or nothing, after a text.

@@ -15,7 +15,6 @@ mod parts;
 mod texts;
 mod words;
 
-use parts::find;
 use std::io::{self, Read};
 
 const OPERATIONS: usize = 4;
@@ -32,11 +31,8 @@ fn main(rt: HostRuntime) -> io::Result<()> {
 }
 
 fn each_line(rt: &impl Print, text: &[u8]) -> io::Result<()> {
-    let mut from: usize = 0;
-    while from < text.len() {
-        let to = find(text, from, b'\n');
-        case(rt, &text[from..to])?;
-        from = to + 1;
+    for line in text.split_inclusive(|byte| *byte == b'\n') {
+        case(rt, line.strip_suffix(b"\n").unwrap_or(line))?;
     }
     Ok(())
 }
@@ -56,7 +52,7 @@ fn case(rt: &impl Print, line: &[u8]) -> io::Result<()> {
 // A title, or an operation that there is not.
 fn other(rt: &impl Print, line: &[u8]) -> io::Result<()> {
     rt.write_all(line)?;
-    let is_title = find(line, 0, b'|') == line.len();
+    let is_title = !line.contains(&b'|');
     texts::either(rt, is_title, texts::LINE, texts::NO_OPERATION)
 }
 
@@ -99,12 +95,8 @@ fn run(rt: &impl Print, line: &[u8], table: &[u32], pool: &[u8]) -> io::Result<(
 
 // The number of an operation among these four; 4 for any other word.
 fn operation(word: &[u8]) -> usize {
-    let mut number: usize = 0;
-    while number < OPERATIONS {
-        if names::same(word, parts::part(b"check|lookups|parts|normalize", number)) {
-            return number;
-        }
-        number += 1;
-    }
-    number
+    b"check|lookups|parts|normalize"
+        .split(|byte| *byte == b'|')
+        .position(|name| name == word)
+        .unwrap_or(OPERATIONS)
 }

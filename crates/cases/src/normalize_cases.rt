@@ -3,6 +3,7 @@ ghost use Rattle.std.specs.Prelude.{◌≤◌};
 
 use crate::normalize_report::normalized;
 use crate::{parts, texts, words};
+use output_answers::Sizes;
 use std::io;
 
 // The outputs are not zero before.
@@ -58,7 +59,7 @@ fn run(
     out_table: &mut [u32],
     out_pool: &mut [u8],
 ) -> io::Result<()> {
-    let given = output_answers::filled(normalizer::normalize(table, pool, out_table, out_pool));
+    let given = Sizes::from(normalizer::normalize(table, pool, out_table, out_pool));
     let number = given.number;
     texts::refusal(rt, texts::REFUSAL, texts::ROW, texts::WORD, number)?;
     normalized(

@@ -62,26 +62,17 @@ fn rows_after(
 fn changed_rows(rt: &impl Print, table: &[u32], out_table: &[u32], end: usize) -> io::Result<()>
     requires { end ≤ MOST_ROWS * WIDTH }
 {
-    let mut start: usize = 0;
-    while start < end {
+    for start in (0..end).step_by(rules::WIDTH) {
         if !same_words(table, out_table, start, start + rules::WIDTH) {
             show(rt, out_table, start)?;
         }
-        start += rules::WIDTH;
     }
     Ok(())
 }
 
 // The words from one index to another are equal in both tables; past its end, a table has zeros.
 fn same_words(table: &[u32], other: &[u32], from: usize, to: usize) -> bool {
-    let mut at = from;
-    while at < to {
-        if word(table, at) != word(other, at) {
-            return false;
-        }
-        at += 1;
-    }
-    true
+    (from..to).all(|at| word(table, at) == word(other, at))
 }
 
 fn word(table: &[u32], at: usize) -> u32 {
@@ -92,14 +83,7 @@ fn word(table: &[u32], at: usize) -> u32 {
 }
 
 fn zero_bytes(bytes: &[u8], from: usize) -> bool {
-    let mut i = from;
-    while i < bytes.len() {
-        if bytes[i] != 0 {
-            return false;
-        }
-        i += 1;
-    }
-    true
+    bytes.iter().skip(from).all(|byte| *byte == 0)
 }
 
 // The number and the words of the row that starts there.
@@ -108,10 +92,8 @@ fn show(rt: &impl Print, table: &[u32], start: usize) -> io::Result<()>
 {
     say(rt, texts::CHANGED_ROW, start / rules::WIDTH)?;
     texts::write(rt, texts::WORDS)?;
-    let mut at = start;
-    while at < start + rules::WIDTH {
+    for at in start..start + rules::WIDTH {
         say(rt, texts::SPACE, word(table, at) as usize)?;
-        at += 1;
     }
     texts::write(rt, texts::LINE)
 }

@@ -1,6 +1,4 @@
 // The parts of a line, with `|` between two of them.
-ghost use Rattle.std.specs.Prelude.{◌≡◌, ℕ, ◌<◌, ◌≤◌, ◌≢◌, length, slice_index};
-
 use crate::words;
 
 // More bytes than a pool may have.
@@ -13,33 +11,9 @@ pub fn part(line: &[u8], number: usize) -> &[u8] {
 
 // The piece of that number of a text, with that byte between two of them.
 pub fn piece(text: &[u8], number: usize, between: u8) -> &[u8] {
-    let mut from: usize = 0;
-    let mut left = number;
-    while left > 0 {
-        let at = find(text, from, between);
-        if at >= text.len() {
-            return &text[..0];
-        }
-        from = at + 1;
-        left -= 1;
-    }
-    let to = find(text, from, between);
-    &text[from..to]
-}
-
-// Where that byte comes first from an index on; the end of the text where it does not.
-pub fn find(text: &[u8], from: usize, byte: u8) -> usize
-    requires { from ≤ length text.now }
-    ensures start { from ≤ result }
-    ensures end { result ≤ length text.now }
-    ensures found { result < length text.now → slice_index text.now result ≡ byte }
-    ensures first { (k : ℕ) → from ≤ k → k < result → slice_index text.now k ≢ byte }
-{
-    let mut at = from;
-    while at < text.len() && text[at] != byte {
-        at += 1;
-    }
-    at
+    text.split(|byte| *byte == between)
+        .nth(number)
+        .unwrap_or(&[])
 }
 
 // A pool: the bytes that are written, or for `*` and a number so many bytes of plenty.

@@ -1,7 +1,7 @@
 // The texts of the report, each by its number. A byte string in a function costs its check more than a number, so that one
 // string holds them all, in the order of their numbers and with `|` between two of them.
 use crate::parts::part;
-use answers::Number;
+use refusal_numbers::Number;
 use std::io;
 
 // Of every operation.

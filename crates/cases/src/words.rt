@@ -3,8 +3,6 @@
 // grows from row to row as it did between the two rows before. A number in digits is at most 4294967289.
 ghost use Rattle.std.specs.Prelude.{◌≤◌, length};
 
-use crate::parts::find;
-
 // The words of two rows more than a table may have.
 pub const MOST: usize = (rules::MOST_ROWS + 2) * rules::WIDTH;
 
@@ -12,12 +10,9 @@ pub const MOST: usize = (rules::MOST_ROWS + 2) * rules::WIDTH;
 pub fn read(text: &[u8], out: &mut [u32]) -> usize
     ensures { result ≤ length out.new }
 {
-    let mut count: usize = 0;
-    let mut from: usize = 0;
-    while from < text.len() {
-        let to = find(text, from, b' ');
-        count = put(&text[from..to], out, count);
-        from = to + 1;
+    let mut count = 0;
+    for word in text.split(|byte| *byte == b' ') {
+        count = put(word, out, count);
     }
     count
 }
@@ -48,16 +43,11 @@ fn go_on(out: &mut [u32], count: usize, rows: u32) -> usize
     if count < 2 * rules::WIDTH {
         return count;
     }
-    let end = rows as usize * rules::WIDTH;
-    let mut at = count;
-    while at < out.len() {
-        if at >= end {
-            return at;
-        }
+    let end = out.len().min(rows as usize * rules::WIDTH);
+    for at in count..end {
         out[at] = next(out[at - rules::WIDTH], out[at - 2 * rules::WIDTH]);
-        at += 1;
     }
-    at
+    count.max(end)
 }
 
 // The word after two others: it differs from the last as that does from the one before.
@@ -67,26 +57,16 @@ fn next(last: u32, before: u32) -> u32 {
 
 // No word of the text has a digit too many to be a number.
 pub fn are_numbers(text: &[u8]) -> bool {
-    let mut from: usize = 0;
-    while from < text.len() {
-        let to = find(text, from, b' ');
-        if is_too_large(&text[from..to]) {
-            return false;
-        }
-        from = to + 1;
-    }
-    true
+    !text.split(|byte| *byte == b' ').any(is_too_large)
 }
 
 fn is_too_large(word: &[u8]) -> bool {
     let mut number: u32 = 0;
-    let mut i: usize = 0;
-    while i < word.len() {
-        if (number >= rules::NONE / 10) & is_digit(word[i]) {
+    for byte in word {
+        if (number >= rules::NONE / 10) & is_digit(*byte) {
             return true;
         }
-        number = with_digit(number, word[i]);
-        i += 1;
+        number = with_digit(number, *byte);
     }
     false
 }
@@ -97,13 +77,8 @@ fn is_digit(b: u8) -> bool {
 
 // The number that the digits of a text make; `-` makes NONE, and so does a digit too many.
 pub fn number(text: &[u8]) -> u32 {
-    let mut number: u32 = 0;
-    let mut i: usize = 0;
-    while i < text.len() {
-        number = with_digit(number, text[i]);
-        i += 1;
-    }
-    number
+    text.iter()
+        .fold(0, |number, byte| with_digit(number, *byte))
 }
 
 fn with_digit(number: u32, b: u8) -> u32 {

@@ -12,12 +12,10 @@ pub fn holds_forbidden(value: &[u8]) -> bool
     if all_harmless(value) {
         return false;
     }
-    let mut i = 0;
-    while i < value.len() {
+    for i in 0..value.len() {
         if starts_forbidden(value, i) {
             return true;
         }
-        i += 1;
     }
     false
 }
@@ -28,10 +26,8 @@ fn all_harmless(value: &[u8]) -> bool
     ensures { result ≡ all_of is_harmless value.now }
 {
     let mut all = true;
-    let mut i = 0;
-    while i < value.len() {
-        all = all & is_harmless(value[i]);
-        i += 1;
+    for b in value {
+        all &= is_harmless(*b);
     }
     all
 }

@@ -1,5 +1,6 @@
 -- The whole check: its size, its arrays, its rows.
 -- Assumes nothing.
+use Rattle.std.specs.Prelude.{Err}
 use Prim.Native.Nat.{ℕ, ◌+◌, ◌≤◌}
 use mathlib.Core.Path.{◌≡◌, ap}
 use mathlib.Core.Bool.{true, false}
@@ -9,7 +10,6 @@ use lib.ListN.{length, replicate}
 use Rattle.rules.specs.Table.{MOST_ROWS, MOST_BYTES, row_count}
 use Rattle.rules.specs.Refusals.{bad_size, verdict, check_refusal, checked}
 use Rattle.rules.specs.declared.Refusal.{Refusal}
-use Rattle.rules.specs.declared.Checked.{Checked}
 use Rattle.rules.proofs.Refusals.{first_alone}
 use Rattle.entries.specs.Entries.{NAMES}
 use Rattle.dictionary.specs.Dictionary.{PLACES, last_of, Dictionary}
@@ -38,7 +38,7 @@ lent-empty table pool dictionary notes e zero =
 
 -- The whole check.
 module _ (table pool : List ℕ) where
-  pub check-size : bad_size table pool ≡ true → Checked.Refused Refusal.Size ≡ checked table pool
+  pub check-size : bad_size table pool ≡ true → Err Refusal.Size ≡ checked table pool
   unfolding checked check_refusal
   check-size e = rw e
 

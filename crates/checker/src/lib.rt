@@ -2,19 +2,16 @@
 // exactly where the bytes are equal, and what a name is worth is found once for each number.
 #![tactic(auto)]
 
-ghost use Rattle.std.specs.Prelude.{◌≡◌, ℕ, ◌≤◌, ◌<◌};
-ghost use Rattle.rules.specs.Table.{row_count};
+ghost use Rattle.std.specs.Prelude.{◌≡◌, ℕ, ◌≤◌, ◌<◌, Ok, replicate};
 ghost use Rattle.rules.specs.Refusals.{verdict, checked};
-ghost use Rattle.rules.specs.declared.Checked.{Checked};
 ghost use Rattle.notes.specs.Notes.{LATEST, note_at, NOTES as ROW_NOTES};
 ghost use Rattle.dictionary.specs.Dictionary.{last_of, Dictionary};
 ghost use Rattle.value_bytes.specs.Judging.{Judging};
 ghost use Rattle.row_checks.specs.Pass.{rows_refusal};
 ghost use Rattle.row_checks.specs.Arrays.{Enough, Named};
-ghost use Rattle.table_size.specs.Small.{FEW_ROWS};
 ghost use Rattle.checker.specs.Lent.{Lent};
 
-use rules::{Checked, Refusal};
+use rules::Refusal;
 
 // The words of the arrays that are lent for a small table and for any.
 pub const SMALL_DICTIONARY: usize = dictionary::EMPTY_WORDS
@@ -27,13 +24,13 @@ pub const DICTIONARY: usize = dictionary::EMPTY_WORDS + 3 * rules::MOST_ROWS * d
 pub const NOTES: usize = notes::NOTES * rules::MOST_ROWS;
 
 // The first refusal that the table draws, or that it is accepted.
-pub fn check(table: &[u32], pool: &[u8]) -> Checked
+pub fn check(table: &[u32], pool: &[u8]) -> Result<(), Refusal>
     ensures { result ≡ checked table.now pool.now }
 {
     if rows::row_count(table) <= table_size::FEW_ROWS {
-        return check_small(table, pool);
+        return check_in::<SMALL_DICTIONARY, SMALL_NOTES>(table, pool);
     }
-    check_any(table, pool)
+    check_in::<DICTIONARY, NOTES>(table, pool)
 }
 
 // The check, which leaves the numbers of the names in the notes of the rows, and what they stand for in
@@ -43,14 +40,14 @@ pub fn check_numbered(
     pool: &[u8],
     dictionary: &mut [u16],
     notes: &mut [u16],
-) -> Checked
+) -> Result<(), Refusal>
     requires { Lent table.now dictionary.old notes.old }
     ensures value { result ≡ checked table.now pool.now }
-    ensures named { result ≡ Checked.Accepted → Named table.now pool.now dictionary.new notes.new }
+    ensures named { result ≡ Ok tt → Named table.now pool.now dictionary.new notes.new }
     ensures by_index { (q k : ℕ) → LATEST ≤ k → k < ROW_NOTES → note_at notes.new q k ≡ note_at notes.old q k }
 {
     if table_size::is_bad(table, pool) {
-        return Checked::Refused(Refusal::Size);
+        return Err(Refusal::Size);
     }
     let ascii = utf8::is_ascii(pool);
     let mut marks = [0; marks::WORDS];
@@ -66,12 +63,12 @@ fn check_sized(
     marks: &[u16],
     dictionary: &mut [u16],
     notes: &mut [u16],
-) -> Checked
+) -> Result<(), Refusal>
     requires enough { Enough table.now pool.now dictionary.old notes.old }
     requires judging { Judging pool.now marks.now ascii }
     requires dictionary { Dictionary dictionary.old pool.now × (last_of dictionary.old ≤ 0) }
     ensures value { result ≡ verdict (rows_refusal table.now pool.now) }
-    ensures named { result ≡ Checked.Accepted → Named table.now pool.now dictionary.new notes.new }
+    ensures named { result ≡ Ok tt → Named table.now pool.now dictionary.new notes.new }
     ensures by_index { (q k : ℕ) → LATEST ≤ k → k < ROW_NOTES → note_at notes.new q k ≡ note_at notes.old q k }
 {
     let first = row_checks::check_rows(table, pool, ascii, marks, dictionary, notes, true);
@@ -89,32 +86,32 @@ fn check_hard(
     marks: &[u16],
     dictionary: &mut [u16],
     notes: &mut [u16],
-) -> Checked
+) -> Result<(), Refusal>
     requires enough { Enough table.now pool.now dictionary.old notes.old }
     requires judging { Judging pool.now marks.now ascii }
     ensures value { result ≡ verdict (rows_refusal table.now pool.now) }
-    ensures named { result ≡ Checked.Accepted → Named table.now pool.now dictionary.new notes.new }
+    ensures named { result ≡ Ok tt → Named table.now pool.now dictionary.new notes.new }
     ensures by_index { (q k : ℕ) → LATEST ≤ k → k < ROW_NOTES → note_at notes.new q k ≡ note_at notes.old q k }
 {
     dictionary::harden(dictionary, table, pool);
     row_checks::check_rows(table, pool, ascii, marks, dictionary, notes, false)
 }
 
-// The check in arrays for a small table.
-pub fn check_small(table: &[u32], pool: &[u8]) -> Checked
-    requires { row_count table.now ≤ FEW_ROWS }
+// The check in arrays of so many words.
+#[inline(never)]
+fn check_in<const DICTIONARY_WORDS: usize, const NOTE_WORDS: usize>(
+    table: &[u32],
+    pool: &[u8],
+) -> Result<(), Refusal>
+    requires dictionary_size { DICTIONARY_WORDS < 65536 }
+    requires note_size { NOTE_WORDS < 65536 }
+    requires lent { Lent table.now (replicate DICTIONARY_WORDS 0) (replicate NOTE_WORDS 0) }
     ensures { result ≡ checked table.now pool.now }
 {
-    let mut dictionary = [0; SMALL_DICTIONARY];
-    let mut notes = [0; SMALL_NOTES];
-    check_numbered(table, pool, &mut dictionary, &mut notes)
-}
-
-// The check in arrays for any table.
-fn check_any(table: &[u32], pool: &[u8]) -> Checked
-    ensures { result ≡ checked table.now pool.now }
-{
-    let mut dictionary = [0; DICTIONARY];
-    let mut notes = [0; NOTES];
-    check_numbered(table, pool, &mut dictionary, &mut notes)
+    check_numbered(
+        table,
+        pool,
+        &mut [0; DICTIONARY_WORDS],
+        &mut [0; NOTE_WORDS],
+    )
 }

@@ -12,7 +12,7 @@ use Rattle.rules.specs.Lists.{is_one_of}
 use Rattle.rules.specs.Table.{TYPE, PARENT, ELEMENT, ATTRIBUTE, TEXT, DECLARATION, word, row_count}
 use Rattle.rules.proofs.Lists.{by_cases, both_true, true-not-false}
 use Rattle.rows.proofs.Words.{or-false}
-use Rattle.notes.specs.Notes.{NOTES, LATEST, FIRST, note_at, noted}
+use Rattle.notes.specs.Notes.{NOTES, LATEST, note_at, noted}
 use Rattle.notes.proofs.Laws.{length-noted, noted-same, noted_other}
 use Rattle.children.specs.Children.{kinds, is_under, first_word, seek, Listed, Relinked}
 
@@ -125,16 +125,9 @@ module _ (test : ℕ → ℕ → Bool) (links links' : List ℕ) (n r : ℕ) whe
   kept-words first a b l =
       record { firsts = λ e h. a e ∙ l.firsts e h; nexts = λ e d h i j own. b (d - 1) ∙ l.nexts e d h i j own }
 
-  pub owned-kept : Relinked (first_word false) links links' → Listed test (first_word true) links n r → Listed test (first_word true) links' n r
-  owned-kept relinked = kept-words FIRST (λ q. relinked q FIRST (omega arith) (λ e. absurd (omega arith)) (λ e. absurd (omega arith))) (λ q. relinked q (FIRST + 1) (omega arith) (λ e. absurd (omega arith)) (λ e. absurd (omega arith)))
-
   pub content-kept : Relinked (first_word true) links links' → Listed test (first_word false) links n r → Listed test (first_word false) links' n r
   content-kept relinked = kept-words LATEST (λ q. relinked q LATEST (omega arith) (λ e. absurd (omega arith)) (λ e. absurd (omega arith))) (λ q. relinked q (LATEST + 1) (omega arith) (λ e. absurd (omega arith)) (λ e. absurd (omega arith)))
 
 -- The rows of both kinds from row r on are linked.
 abbrev pub BothListed : List ℕ → List ℕ → ℕ → Type 0
 BothListed table links r = (owned : Bool) → Listed (is_under owned table) (first_word owned) links (row_count table) r
-
-pub both-listed : (table links : List ℕ) (r : ℕ) → Listed (is_under true table) (first_word true) links (row_count table) r → Listed (is_under false table) (first_word false) links (row_count table) r → BothListed table links r
-both-listed table links r a b true = a
-both-listed table links r a b false = b

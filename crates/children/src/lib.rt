@@ -16,11 +16,10 @@ pub fn link_all(table: &[u32], links: &mut [u16])
     requires owned_value { (owned : Bool) (e : ℕ) → note_at links.old e (first_word owned) ≡ 0 }
     ensures { (owned : Bool) → Listed (is_under owned table.now) (first_word owned) links.new (row_count table.now) 0 }
 {
-    let mut r = rows::row_count(table);
-    while r > 0 {
-        r -= 1;
-        link(table, links, Row(r as u32), true);
-        link(table, links, Row(r as u32), false);
+    let rows = rows::row_count(table) as u32;
+    for r in (0..rows).rev() {
+        link(table, links, Row(r), true);
+        link(table, links, Row(r), false);
     }
 }
 

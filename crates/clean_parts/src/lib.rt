@@ -19,11 +19,10 @@ pub fn make(reaches: &mut [u16], pool: &[u8])
     ensures reaches_len_unchanged { length reaches.new ≡ length reaches.old }
 {
     let mut reach = 0;
-    let mut k = 0;
-    while BLOCK * k <= pool.len() {
+    let blocks = pool.len() / BLOCK + 1;
+    for k in 0..blocks {
         reach = reach_from(pool, BLOCK * k, reach);
         reaches[k] = reach as u16;
-        k += 1;
     }
 }
 
@@ -76,12 +75,10 @@ fn first_forbidden(pool: &[u8], from: usize, to: usize) -> usize
     requires { (from ≤ to) × (to ≤ length pool.now) }
     ensures { (result ≤ to) × Clean pool.now from result }
 {
-    let mut i = from;
-    while i < to {
+    for i in from..to {
         if characters::starts_forbidden(pool, i) {
             return i;
         }
-        i += 1;
     }
     to
 }

@@ -1,5 +1,6 @@
 -- The conflicts of a row, one after the other; and what a row without one leaves.
 -- Assumes nothing.
+use Rattle.std.specs.Prelude.{Result, Ok, Err, ⊤}
 use Prim.Native.Nat.{ℕ, ◌+◌, ◌<◌}
 use mathlib.Core.Path.{◌≡◌, sym, ap, ◌∙◌}
 use mathlib.Core.Bool.{Bool, true, false}
@@ -10,7 +11,6 @@ use borrow.Author.Tests.{ne_eqb, eq-eqb}
 use Rattle.rules.specs.Table.{DECLARATION, Node, node_at, nodes, node, row_count}
 use Rattle.rules.specs.Refusals.{refused_if, first_refusal, bad_declaration, conflicts, verdict}
 use Rattle.rules.specs.declared.Refusal.{Refusal}
-use Rattle.rules.specs.declared.Checked.{Checked}
 use Rattle.rules.proofs.Table.{node-nodes, length-nodes}
 use Rattle.numbers.specs.Numbers.{Names}
 use Rattle.numbers.specs.Noted.{declared_uri, NodeNumbered}
@@ -38,14 +38,14 @@ module _ (enters : ℕ → Bool) (table pool : List ℕ) (r : ℕ) (h : r < row_
   here : bad_declaration (node (nodes table pool) r) ≡ six
   here = rw (node-nodes table pool r h) (sym s)
 
-  pub conflict-declaration : six ≡ true → Checked.Refused (Refusal.Declaration (record { 0 = r })) ≡ verdict (conflict_refusal enters (nodes table pool) r)
+  pub conflict-declaration : six ≡ true → Err (Refusal.Declaration (record { 0 = r })) ≡ verdict (conflict_refusal enters (nodes table pool) r)
   conflict-declaration e = rw (here, e)
 
   module _ (e : six ≡ false) {seven : Bool} (d : seven ≡ has_double enters (nodes table pool) r) where
-    pub conflict-double : seven ≡ true → Checked.Refused (Refusal.Double (record { 0 = r })) ≡ verdict (conflict_refusal enters (nodes table pool) r)
+    pub conflict-double : seven ≡ true → Err (Refusal.Double (record { 0 = r })) ≡ verdict (conflict_refusal enters (nodes table pool) r)
     conflict-double f = rw (here, e, ← d, f)
 
-    pub conflict-none : seven ≡ false → Checked.Accepted ≡ verdict (conflict_refusal enters (nodes table pool) r)
+    pub conflict-none : seven ≡ false → (Ok tt) ≡ verdict (conflict_refusal enters (nodes table pool) r)
     conflict-none f = rw (here, e, ← d, f)
 
 -- Where all rows are entered, these are the conflicts of the rules.
@@ -57,10 +57,10 @@ conflicts-all table pool r h =
 
 -- What the chains are after the row: whether it is entered must be what was drawn.
 module _ {enters : ℕ → Bool} {table notes chains : List ℕ} {r : ℕ} (h : r < row_count table) (g : Entered enters table notes chains r) {b : ℕ} (q : b ≡ bucket_at table notes (r + 1)) where
-  pub settled-entered : enters r ≡ true → Behind table r → {drawn : Checked} → drawn ≡ Checked.Accepted → Entered enters table notes (settled drawn chains b r) (r + 1)
+  pub settled-entered : enters r ≡ true → Behind table r → {drawn : Result ⊤ Refusal} → drawn ≡ Ok tt → Entered enters table notes (settled drawn chains b r) (r + 1)
   unfolding settled
   settled-entered e own a = rw a (added h g e own q)
 
-  pub settled-passed : enters r ≡ false → {drawn : Checked} (x : Refusal) → drawn ≡ Checked.Refused x → Entered enters table notes (settled drawn chains b r) (r + 1)
+  pub settled-passed : enters r ≡ false → {drawn : Result ⊤ Refusal} (x : Refusal) → drawn ≡ Err x → Entered enters table notes (settled drawn chains b r) (r + 1)
   unfolding settled
   settled-passed e x a = rw a (passed h g e)

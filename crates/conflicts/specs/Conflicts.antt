@@ -1,10 +1,9 @@
 -- What one row is refused for among those that are entered, and what becomes of it.
-use Rattle.std.specs.Prelude.{ℕ, ◌+◌, ◌*◌, ◌≤◌, Bool, List, [], ◌∷◌, length}
+use Rattle.std.specs.Prelude.{ℕ, ◌+◌, ◌*◌, ◌≤◌, Bool, List, [], ◌∷◌, length, Result, Ok, Err, ⊤}
 use Rattle.std.proofs.Math.Option.{Option}
 use Rattle.rules.specs.Table.{Node, node}
 use Rattle.rules.specs.Refusals.{refused_if, first_refusal, bad_declaration}
 use Rattle.rules.specs.declared.Refusal.{Refusal}
-use Rattle.rules.specs.declared.Checked.{Checked}
 use Rattle.notes.specs.Notes.{LOCAL_NAME, VALUE, note_at}
 use Rattle.entries.specs.Entries.{NAMES, WIDTH}
 use Rattle.dictionary.specs.Dictionary.{PLACES}
@@ -24,6 +23,6 @@ pub record Known (dictionary notes : List ℕ) (r : ℕ) : Type 0 where
   pub value : PLACES + NAMES + WIDTH * note_at notes r VALUE + WIDTH ≤ length dictionary
 
 -- the chains after row r, of bucket b: it is entered unless it is refused
-unfoldable pub settled : Checked → List ℕ → ℕ → ℕ → List ℕ
-settled Checked.Accepted chains b r = entered chains b r
-settled (Checked.Refused x) chains b r = chains
+unfoldable pub settled : Result ⊤ Refusal → List ℕ → ℕ → ℕ → List ℕ
+settled (Ok tt) chains b r = entered chains b r
+settled (Err x) chains b r = chains

@@ -13,7 +13,7 @@ ghost use Rattle.doubles.specs.Doubles.{bucket_at, Entered, SomeEntered};
 ghost use Rattle.conflicts.specs.Conflicts.{conflict_refusal, Known, settled};
 
 use row_names::declaration;
-use rules::{Checked, Refusal, Row};
+use rules::{Refusal, Row};
 
 // The first conflict of the row, with those entered before it. Where it has none, it is entered too.
 pub fn check(
@@ -22,7 +22,7 @@ pub fn check(
     notes: &[u16],
     chains: &mut [u16],
     row: Row,
-) -> Checked
+) -> Result<(), Refusal>
     requires row_bound { row.0 < row_count table.now }
     requires known { Known dictionary.now notes.now row.0 }
     requires some_entered { SomeEntered table.now notes.now chains.old row.0 }
@@ -30,14 +30,14 @@ pub fn check(
     ensures chains_after { chains.new ≡ settled result chains.old (bucket_at table.now notes.now (row.0 + 1)) row.0 }
 {
     if bad_declaration(table, dictionary, notes, row) {
-        return Checked::Refused(Refusal::Declaration(row));
+        return Err(Refusal::Declaration(row));
     }
     let bucket = doubles::bucket_at(table, notes, row);
     if doubles::is_double(table, notes, chains, bucket, row) {
-        return Checked::Refused(Refusal::Double(row));
+        return Err(Refusal::Double(row));
     }
     doubles::enter(chains, bucket, row);
-    Checked::Accepted
+    Ok(())
 }
 
 // The row is an illegal declaration.

@@ -1,5 +1,6 @@
 -- The URI that a row decides, and its number.
 -- Assumes nothing.
+use Rattle.std.specs.Prelude.{Some, None}
 use Prim.Native.Nat.{ℕ, ◌<◌}
 use mathlib.Core.Bool.{Bool, true, false, cond, ◌&&◌, not}
 use mathlib.Core.List.{List, [], ◌∷◌}
@@ -13,7 +14,6 @@ use Rattle.rules.specs.Lists.{is_empty, same_bytes}
 use Rattle.rules.specs.Table.{ELEMENT, TYPE, DECLARATION, URI, VALUE, xml_prefix, xmlns_prefix, xml_uri, Field, Node, nodes, node_at, field_at, word, row_count}
 use Rattle.rules.specs.Lookups.{has_name, unless_empty, declared, unbound, or_unbound, uri_bytes, names_uri, uri_of_prefix, leads_to, bound}
 use Rattle.rules.specs.declared.Place.{Place}
-use Rattle.rules.specs.declared.Bound.{Bound}
 use Rattle.rules.proofs.Lists.{by_cases, both_true, not-true, same_bytes-sym, same_bytes-empty}
 use Rattle.notes.specs.Notes.{URI as URI_NUMBER, VALUE as VALUE_NUMBER, note_at}
 use Rattle.numbers.specs.Numbers.{Names}
@@ -23,6 +23,7 @@ use Rattle.declarations.proofs.Rows.{found_some, found_none}
 use Rattle.declarations.proofs.Meanings.{none-names, empty-number, uri-names, value-names}
 use Rattle.declarations.proofs.Served.{value-bytes}
 use Rattle.deciders.specs.Deciding.{uri_field, decided, decided_number, Ordinary, Together}
+use Rattle.rules.specs.declared.Bound.{Bound}
 
 -- What is read of a row.
 module _ (table notes : List ℕ) (r : ℕ) where
@@ -67,7 +68,7 @@ module _ {table pool notes : List ℕ} {number : ℕ} {name : List ℕ} (m : Mea
       (λ t. rw t refl)
       (λ t. let f : is_empty (uri_field n).bytes ≡ true = ap is_empty (sym (value-bytes (uri_field n))) ∙ is in rw f refl)
 
-  pub decided-none : (n : ℕ) → n ≡ decided_number table notes r → n ≡ 0 → Bound.Nothing ≡ bound (decided (found (nodes table pool) r))
+  pub decided-none : (n : ℕ) → n ≡ decided_number table notes r → n ≡ 0 → None ≡ bound (decided (found (nodes table pool) r))
   decided-none n read zero? =
       sym (ap bound (bytes-none (found (nodes table pool) r) (sym (empty-number m decided-names) ∙ eq-eqb (decided_number table notes r) 0 (sym read ∙ zero?))))
 
@@ -84,14 +85,14 @@ module _ {table pool notes : List ℕ} {number : ℕ} {name : List ℕ} (m : Mea
         let empty : is_empty f.bytes ≡ false = sym (ap is_empty (ap uri_bytes is ∙ value-bytes f)) ∙ filled in
         is ∙ ap (λ t. or_unbound (cond t none (some f))) empty
 
-    pub decided-value : word table r TYPE ≡ DECLARATION → (p : Place) → p ≡ place_at table r VALUE → Bound.At p ≡ bound (decided (found (nodes table pool) r))
+    pub decided-value : word table r TYPE ≡ DECLARATION → (p : Place) → p ≡ place_at table r VALUE → Some (Bound.At p) ≡ bound (decided (found (nodes table pool) r))
     decided-value type p is =
-        ap Bound.At is
+        ap (λ (p : Place). Some (Bound.At p)) is
         ∙ sym (ap bound (decided-filled (field_at table pool r VALUE) (ap decided (found_some table pool r within) ∙ ap (λ t. or_unbound (unless_empty (cond t (field_at table pool r VALUE) (field_at table pool r URI)))) (eq-eqb (word table r TYPE) DECLARATION type))))
 
-    pub decided-uri : (word table r TYPE ≡ DECLARATION → ⊥) → (p : Place) → p ≡ place_at table r URI → Bound.At p ≡ bound (decided (found (nodes table pool) r))
+    pub decided-uri : (word table r TYPE ≡ DECLARATION → ⊥) → (p : Place) → p ≡ place_at table r URI → Some (Bound.At p) ≡ bound (decided (found (nodes table pool) r))
     decided-uri other p is =
-        ap Bound.At is
+        ap (λ (p : Place). Some (Bound.At p)) is
         ∙ sym (ap bound (decided-filled (field_at table pool r URI) (ap decided (found_some table pool r within) ∙ ap (λ t. or_unbound (unless_empty (cond t (field_at table pool r VALUE) (field_at table pool r URI)))) (ne_eqb (word table r TYPE) DECLARATION other))))
 
 -- A declaration decides by its value, an element whose own name answers by its URI.
@@ -113,12 +114,12 @@ module _ (table pool : List ℕ) (r : ℕ) (within : r < row_count table) where
 
 -- The built-ins, where there is a start element.
 module _ (ns : List Node) (prefix : List ℕ) where
-  pub uri-xml : (path : List ℕ) → 0 < length path → same_bytes prefix xml_prefix ≡ true → Bound.Xml ≡ bound (uri_of_prefix ns prefix path)
+  pub uri-xml : (path : List ℕ) → 0 < length path → same_bytes prefix xml_prefix ≡ true → Some Bound.Xml ≡ bound (uri_of_prefix ns prefix path)
   unfolding uri_of_prefix
   uri-xml [] start is = absurd (not-suc-le-zero start)
   uri-xml (e ∷ outward) start is = rw is refl
 
-  pub uri-xmlns : (path : List ℕ) → 0 < length path → same_bytes prefix xml_prefix ≡ false → same_bytes prefix xmlns_prefix ≡ true → Bound.Xmlns ≡ bound (uri_of_prefix ns prefix path)
+  pub uri-xmlns : (path : List ℕ) → 0 < length path → same_bytes prefix xml_prefix ≡ false → same_bytes prefix xmlns_prefix ≡ true → Some Bound.Xmlns ≡ bound (uri_of_prefix ns prefix path)
   unfolding uri_of_prefix
   uri-xmlns [] start other is = absurd (not-suc-le-zero start)
   uri-xmlns (e ∷ outward) start other is = rw (other, is) refl

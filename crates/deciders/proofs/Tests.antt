@@ -1,5 +1,6 @@
 -- What the code asks of a row is what the definitions ask.
 -- Assumes nothing.
+use Rattle.std.specs.Prelude.{None}
 use Prim.Native.Nat.{ℕ, ◌<◌}
 use mathlib.Core.Bool.{Bool, true, false, ◌&&◌, not, and-false, and-true}
 use mathlib.Core.List.{List, []}
@@ -9,7 +10,6 @@ use borrow.Author.Tests.{eqb-true, eq-eqb, ne_eqb}
 use Rattle.rules.specs.Lists.{is_empty, same_bytes}
 use Rattle.rules.specs.Table.{ELEMENT, TYPE, DECLARATION, xml_uri, xml_prefix, xmlns_prefix, Node, nodes, node_at, word, row_count}
 use Rattle.rules.specs.Lookups.{names_uri, leads_to, names_prefix, gives_prefix, prefix_among, prefix_of_uri, or_unbound, bound}
-use Rattle.rules.specs.declared.Bound.{Bound}
 use Rattle.rules.proofs.Lists.{both_true, same_bytes-equal, same_bytes-sym, same_bytes-empty}
 use Rattle.notes.specs.Notes.{PREFIX, URI, VALUE, note_at}
 use Rattle.declarations.specs.Meant.{Meant}
@@ -80,7 +80,7 @@ module _ {table pool notes : List ℕ} {number : ℕ} {name : List ℕ} (m : Mea
   empty-asked = m.asked 0 [] (none-names m) ∙ same_bytes-sym [] name ∙ same_bytes-empty name
 
   module _ (ns : List Node) (path : List ℕ) where
-    pub prefix-empty : number ≡ 0 → Bound.Nothing ≡ bound (or_unbound (prefix_of_uri ns name path))
+    pub prefix-empty : number ≡ 0 → None ≡ bound (or_unbound (prefix_of_uri ns name path))
     unfolding prefix_of_uri
     prefix-empty zero? = rw (sym empty-asked ∙ eq-eqb 0 number (sym zero?)) refl
 

@@ -3,7 +3,7 @@
 use Prim.Native.Nat.{ℕ, ◌+◌, ◌≤◌, ◌<◌}
 use mathlib.Core.Bool.{Bool, true}
 use mathlib.Core.List.{List, [], ◌∷◌, ◌++◌}
-use mathlib.Core.Path.{◌≡◌, refl, sym, ap, ◌∙◌, subst}
+use mathlib.Core.Path.{◌≡◌, refl, sym, ap, ◌∙◌}
 use native.Mathlib.Numerals.{add-one}
 use lib.Dec.{eqb}
 use borrow.Author.Tests.{eqb-true}
@@ -14,8 +14,6 @@ use Rattle.rules.specs.Table.{NONE, DECLARATION, Node, nodes, node_at, row_count
 use Rattle.rules.specs.Lookups.{is_declaration_of, own_declarations, scope_of}
 use Rattle.rules.proofs.Lists.{by_cases, both_true, true-both, first_that-append-none, first_that-append-some, all_of-append, all_of-first_that}
 use Rattle.rows.specs.Reading.{found}
-use Rattle.ancestors.specs.Paths.{Element}
-use Rattle.declarations.specs.Along.{Along}
 use Rattle.declarations.proofs.Rows.{found_some, found_none}
 
 -- What is declared along a path from position i on: the declarations of the element there, and what is declared further on.
@@ -39,9 +37,6 @@ pub record Searching (table pool path : List ℕ) (test : Node → Bool) (i : �
 module _ (table pool path : List ℕ) (test : Node → Bool) where
   abbrev ns : List Node
   ns = nodes table pool
-
-  pub searching-first : Searching table pool path test 0
-  searching-first = record { left = refl }
 
   module _ (i : ℕ) (searching : Searching table pool path test i) where
     pub searching-end : row_count table ≤ NONE → length path ≤ i → found ns NONE ≡ first_that test (scope_of ns path)
@@ -67,11 +62,6 @@ module _ (table pool path : List ℕ) (test : Node → Bool) where
                 ∙ first_that-append-none test (own_declarations ns e) (scope_of ns (drop (i + 1) path)) (sym own ∙ found_none table pool d past))
                 ∙ searching.left;
           }
-
--- The element at a position of the path.
-pub path-element :
-    (table notes path : List ℕ) → Along table notes path → (i : ℕ) → i < length path → (e : ℕ) → e ≡ get_or path i 0 → Element table e
-path-element table notes path along i less e here = subst (Element table) (sym here) (along.elements i less)
 
 -- What is declared along a path is a declaration.
 module _ (ns : List Node) where

@@ -38,14 +38,11 @@ pub fn nearest(table: &[u32], notes: &[u16], path: &[u32], prefix: NameId) -> Ro
     requires { Along table.now notes.now path.now }
     ensures { (pool name : List ℕ) → Meant table.now pool notes.now prefix.0 name → found (nodes table.now pool) result.0 ≡ first_that (declares name) (scope_of (nodes table.now pool) path.now) }
 {
-    let wanted = prefix.0;
-    let mut i: usize = 0;
-    while i < path.len() {
-        let declaration = own(table, notes, rows::row_at(path, i), NameId(wanted));
+    for element in path {
+        let declaration = own(table, notes, Row(*element), prefix);
         if rows::has_row(table, declaration) {
             return declaration;
         }
-        i += 1;
     }
     Row(rules::NONE)
 }

@@ -6,8 +6,9 @@ use mathlib.Core.List.{List}
 use native.Mathlib.Omega.{arith}
 use borrow.Author.Tests.{eqb-true, eqb-false, ltb-true, ltb-false}
 use lib.Dec.{eqb, ltb}
-use lib.ListN.{length, get_or, set, length-drop, get_or-eq_default}
+use lib.ListN.{length, get_or, set, replicate, length-replicate, length-drop, get_or-eq_default}
 use lib.Seq.{get_or-drop, get_or-set_same, get_or-set_other}
+use Rattle.std.proofs.lemmas.List.{get_or-replicate}
 use Rattle.rules.proofs.Lists.{by_cases}
 use Rattle.entries.specs.Entries.{last_number, Entries}
 use Rattle.dictionary.specs.Dictionary.{PLACES, OFFSET, LENGTH, NUMBER, entries_of, last_of, Dictionary}
@@ -25,6 +26,14 @@ module _ (words : List ℕ) (i : ℕ) where
       by_cases (ltb j i)
       (λ t. none j (ltb-true j i t))
       (λ t. let l = ltb-false j i t in get_or-eq_default words 0 (omega arith))
+
+-- Words that `fill` left are cleared.
+pub filled : (n : ℕ) {words : List ℕ} → words ≡ replicate n 0 → (i : ℕ) → get_or words i 0 ≡ 0
+filled n e i =
+    rw e
+    (by_cases (ltb i n)
+    (λ t. get_or-replicate n i 0 0 (ltb-true i n t))
+    (λ t. let l = ltb-false i n t in get_or-eq_default (replicate n 0) 0 (rw length-replicate (omega arith))))
 
 -- The entries of cleared words are cleared.
 pub entries_none : (d : List ℕ) → ((i : ℕ) → get_or d i 0 ≡ 0) → (i : ℕ) → get_or (entries_of d) i 0 ≡ 0

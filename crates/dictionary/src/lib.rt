@@ -3,7 +3,7 @@
 // are a dictionary in which only the empty name has a number, 0.
 #![tactic(auto)]
 
-ghost use Rattle.std.specs.Prelude.{◌≡◌, List, ℕ, ◌+◌, ◌*◌, ◌≤◌, ◌<◌, length, get_or, eqb, ◌&&◌};
+ghost use Rattle.std.specs.Prelude.{◌≡◌, List, ℕ, ◌+◌, ◌*◌, ◌≤◌, ◌<◌, length, eqb, ◌&&◌};
 ghost use Rattle.rules.specs.Table.{MOST_BYTES, part};
 ghost use Rattle.kinds.specs.Kinds.{kind_of};
 ghost use Rattle.entries.specs.Entries.{NAMES, WIDTH, Denotes, Interned, HasRoom, Within};
@@ -84,18 +84,8 @@ pub fn harden(dictionary: &mut [u16], table: &[u32], pool: &[u8])
     ensures dictionary_bound { last_of dictionary.new ≤ 0 }
 {
     let key = hash_keys::key_of(table, pool);
-    clear(dictionary);
+    dictionary.fill(0);
     interning::key(&mut dictionary[PLACES..], pool, key);
-}
-
-fn clear(words: &mut [u16])
-    ensures { (i : ℕ) → get_or words.new i 0 ≡ 0 }
-{
-    let mut i = 0;
-    while i < words.len() {
-        words[i] = 0;
-        i += 1;
-    }
 }
 
 // The name of a number.

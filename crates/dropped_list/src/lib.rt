@@ -21,10 +21,8 @@ pub fn write(fates: &[u32], rows: usize, list: &mut [u32])
 {
     buffers::clear_words(list, 0);
     let mut kept: u32 = 0;
-    let mut r = 0;
-    while r < rows {
-        kept = write_entry(fates, list, Row(r as u32), Row(kept)).0;
-        r += 1;
+    for r in 0..rows as u32 {
+        kept = write_entry(fates, list, Row(r), Row(kept)).0;
     }
 }
 

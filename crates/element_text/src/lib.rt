@@ -11,14 +11,14 @@ ghost use Rattle.markup_values.specs.Marks.{PLAIN};
 ghost use Rattle.text_room.specs.Room.{fitted};
 ghost use Rattle.element_text.specs.Elements.{element_text, Clear, AtHand};
 
-use rules::{Row, Written};
+use rules::{Refusal, Row};
 
 // What clearing the lengths of the runs of any pool costs, in bytes that are looked at.
 const CLEARING: usize = 8192;
 
 // Writes the text of an element of a table that the check accepts; the rest of the output is zero. Where the text does not fit:
 // refusal 22, and all is zero.
-pub fn write_any(table: &[u32], pool: &[u8], row: Row, out: &mut [u8]) -> Written
+pub fn write_any(table: &[u32], pool: &[u8], row: Row, out: &mut [u8]) -> Result<usize, Refusal>
     requires pool_value { check_refusal table.now pool.now ≡ none }
     requires row_bound { row.0 < row_count table.now }
     ensures value { result ≡ (fitted (length out.old) (element_text table.now pool.now row.0)).answer }
@@ -33,7 +33,7 @@ pub fn write_any(table: &[u32], pool: &[u8], row: Row, out: &mut [u8]) -> Writte
 }
 
 // The same in small arrays, of a table of few rows. Runs are not measured, so it is meant for a short pool.
-pub fn write_few(table: &[u32], pool: &[u8], row: Row, out: &mut [u8]) -> Written
+pub fn write_few(table: &[u32], pool: &[u8], row: Row, out: &mut [u8]) -> Result<usize, Refusal>
     requires pool_value { check_refusal table.now pool.now ≡ none }
     requires row_bound { row.0 < row_count table.now }
     requires table_bound { row_count table.now ≤ FEW_ROWS }
@@ -76,14 +76,13 @@ fn is_measured(table: &[u32], pool: &[u8], plain: bool) -> bool
         return false;
     }
     let mut left = pool.len() + CLEARING;
-    let mut r: u32 = 0;
-    while rows::has_row(table, Row(r)) {
+    let rows = rows::row_count(table) as u32;
+    for r in 0..rows {
         let length = rows::wide(rows::place(table, Row(r), rules::VALUE).length);
         if length >= left {
             return true;
         }
         left -= length;
-        r += 1;
     }
     false
 }
@@ -96,7 +95,7 @@ fn write_measured(
     links: &[u16],
     runs: &mut [u16],
     out: &mut [u8],
-) -> Written
+) -> Result<usize, Refusal>
     requires pool_len_bound { (length pool.now ≤ MOST_BYTES) × (2 * length pool.now ≤ length runs.old) }
     requires at_hand { AtHand table.now pool.now links.now [] row.0 }
     ensures value { result ≡ (fitted (length out.old) (element_text table.now pool.now row.0)).answer }
@@ -114,7 +113,7 @@ fn write_marked(
     links: &[u16],
     runs: &[u16],
     out: &mut [u8],
-) -> Written
+) -> Result<usize, Refusal>
     requires { AtHand table.now pool.now links.now runs.now row.0 }
     ensures value { result ≡ (fitted (length out.old) (element_text table.now pool.now row.0)).answer }
     ensures out_after { out.new ≡ (fitted (length out.old) (element_text table.now pool.now row.0)).bytes }

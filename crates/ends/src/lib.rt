@@ -22,9 +22,7 @@ pub fn make(ends: &mut [u16], pool: &[u8], colons: bool)
     ensures ends_len_unchanged { length ends.new ≡ length ends.old }
 {
     let mut end = pool.len();
-    let mut k = WORDS;
-    while k > 0 {
-        k -= 1;
+    for k in (0..WORDS).rev() {
         end = reach_from(pool, BLOCK * k, end, colons);
         ends[k] = end as u16;
     }
@@ -86,12 +84,10 @@ fn reach_from(pool: &[u8], start: usize, end: usize, colons: bool) -> usize
 fn all_named(bytes: &[u8], colons: bool) -> bool
     ensures { result ≡ all_of (is_name_byte colons) bytes.now }
 {
-    let mut i = 0;
-    while i < bytes.len() {
-        if !good_names::is_name_byte(bytes[i], colons) {
+    for byte in bytes {
+        if !good_names::is_name_byte(*byte, colons) {
             return false;
         }
-        i += 1;
     }
     true
 }

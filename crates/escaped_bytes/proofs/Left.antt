@@ -10,7 +10,7 @@ use lib.ListN.{length, get_or, drop}
 use lib.Seq.{drop-cons}
 use Rattle.rules.specs.Lists.{gathered}
 use Rattle.buffers.specs.Writes.{Put}
-use Rattle.buffers.proofs.Writes.{put-nothing, put-past, put-behind}
+use Rattle.buffers.proofs.Writes.{put-nothing, put-behind}
 use Rattle.escapes.specs.Escapes.{escape, escaped}
 use Rattle.runs.proofs.Runs.{nothing_left}
 use Rattle.escaping.proofs.Bytes.{as-put}
@@ -41,6 +41,3 @@ module _ (quoted : Bool) (value all out₀ : List ℕ) (at : ℕ) where
 
     pub left_end : length value ≤ i → Put out₀ at all to out
     left_end h = l.whole (rw (nothing_left value i quoted h) (put-nothing out to))
-
-    pub left-past : length out < to → Put out₀ at all to out
-    left-past h = l.whole (put-past out to (escaped quoted (drop i value)) h)

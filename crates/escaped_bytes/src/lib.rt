@@ -20,13 +20,11 @@ pub fn write_each(
 {
     let limit = out.len() - escaping::ROW;
     let mut to = at;
-    let mut i = from;
-    while i < value.len() {
+    for i in from..value.len() {
         if to > limit {
             return put_each(out, to, value, i, quoted, escapes);
         }
         to = escaping::write_byte(out, to, value[i], quoted, escapes);
-        i += 1;
     }
     to
 }
@@ -44,13 +42,11 @@ pub fn put_each(
     ensures { Put out.old at (escaped quoted (drop from value.now)) result out.new }
 {
     let mut to = at;
-    let mut i = from;
-    while i < value.len() {
+    for b in &value[from..] {
         if to > out.len() {
             return to;
         }
-        to = escaping::put_byte(out, to, value[i], quoted, escapes);
-        i += 1;
+        to = escaping::put_byte(out, to, *b, quoted, escapes);
     }
     to
 }

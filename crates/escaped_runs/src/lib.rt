@@ -32,6 +32,7 @@ pub fn write_runs(
     let limit = out.len() - ROOM;
     let mut to = at;
     let mut i = 0;
+    // No range gives i: each step is as long as the run that it passes.
     while i < blocks {
         if to > limit {
             return escaped_bytes::put_each(out, to, value, i, quoted, escapes);

@@ -3,7 +3,6 @@
 use Prim.Native.Nat.{ℕ, ◌≤◌, ◌<◌}
 use mathlib.Core.Path.{◌≡◌}
 use mathlib.Core.List.{List}
-use lib.ListN.{length}
 use Rattle.notes.specs.Notes.{NOTES, LATEST, note_at}
 use Rattle.fast_path.specs.Passing.{Reached, Passed}
 
@@ -12,5 +11,3 @@ pub record Going (table pool dictionary notes₀ chains₀ : List ℕ) (first : 
   pub onward : first ≤ r
   pub passed : (q : ℕ) → first ≤ q → q < r → Passed table pool q
   pub kept : (q k : ℕ) → LATEST ≤ k → k < NOTES → note_at notes q k ≡ note_at notes₀ q k
-  pub records : length notes ≡ length notes₀
-  pub links : length chains ≡ length chains₀

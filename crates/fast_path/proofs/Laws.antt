@@ -198,10 +198,3 @@ module _ {table pool dictionary notes chains : List ℕ} {r : ℕ} (h : r < row_
 
     pub attribute-passed : {double : Bool} → double ≡ has_double every_row (nodes table pool) r → double ≡ false → Passed table pool r
     attribute-passed d e = passed d e
-
--- The rows of a pass.
-pub passed-more : {table pool : List ℕ} {from r : ℕ} → ((q : ℕ) → from ≤ q → q < r → Passed table pool q) → Passed table pool r → (q : ℕ) → from ≤ q → q < r + 1 → Passed table pool q
-passed-more {r = r} before here q l h =
-    by_cases (eqb q r)
-    (λ e. rw (eqb-true q r e) here)
-    (λ e. let d = eqb-false q r e in before q l (omega arith))

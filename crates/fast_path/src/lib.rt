@@ -55,15 +55,13 @@ fn pass_plain(
     ensures by_index { (q : ℕ) → from.0 ≤ q → q < result.0 → Passed table.now pool.now q }
     ensures by_index_2 { (q k : ℕ) → LATEST ≤ k → k < NOTES → note_at notes.new q k ≡ note_at notes.old q k }
 {
-    let first = from.0;
-    let mut r = first;
-    while rows::has_row(table, Row(r)) {
+    let rows = rows::row_count(table) as u32;
+    for r in from.0..rows {
         if !accept(table, pool, ascii, dictionary, notes, chains, Row(r)) {
             return Row(r);
         }
-        r += 1;
     }
-    Row(r)
+    Row(rows)
 }
 
 // The row before seems to have brought a name: its local name or its URI is the newest, and is not that of

@@ -1,5 +1,6 @@
 -- The fate of a row, and what is noted of it.
 -- Assumes nothing.
+use Rattle.std.specs.Prelude.{Result, ⊤}
 use Prim.Native.Nat.{ℕ, zero, suc, ◌+◌, ◌≤◌, ◌<◌}
 use mathlib.Core.Path.{◌≡◌, refl, sym, ap, ◌∙◌}
 use mathlib.Core.Bool.{Bool, true, false, ◌&&◌, ◌||◌, not}
@@ -16,7 +17,6 @@ use Rattle.rules.specs.Table.{Node}
 use Rattle.rules.specs.Answers.{number_of, check_number}
 use Rattle.rules.specs.Refusals.{verdict}
 use Rattle.rules.specs.declared.Refusal.{Refusal}
-use Rattle.rules.specs.declared.Checked.{Checked}
 use Rattle.rules.proofs.Lists.{by_cases, true-not-false, any_of-append}
 use Rattle.rules.proofs.Result.{refusal-numbered}
 use Rattle.dropped_rows.specs.Dropped.{drop_refusal, kept}
@@ -94,13 +94,13 @@ fated-start ns size = record { below = λ q h. absurd (not-suc-le-zero h); above
 
 module _ {ns : List Node} {fates : List ℕ} {r : ℕ} (g : Fated ns fates r) where
   -- The fate of row r is noted.
-  pub fated-noted : r < length fates → {conflict : Checked} → conflict ≡ verdict (drop_refusal ns (kept ns r) r) → Fated ns (set fates r (check_number conflict).number) (r + 1)
+  pub fated-noted : r < length fates → {conflict : Result ⊤ Refusal} → conflict ≡ verdict (drop_refusal ns (kept ns r) r) → Fated ns (set fates r (check_number conflict).number) (r + 1)
   unfolding fate_of
   fated-noted h e =
       record {
         below = λ q i.
             by_cases (eqb q r)
-            (λ t. let z = eqb-true q r t in rw z (get_or-set_same fates r _ 0 h ∙ ap (λ (c : Checked). (check_number c).number) e))
+            (λ t. let z = eqb-true q r t in rw z (get_or-set_same fates r _ 0 h ∙ ap (λ (c : Result ⊤ Refusal). (check_number c).number) e))
             (λ t. let z = eqb-false q r t in get_or-set_other fates r q _ 0 z ∙ g.below q (omega (arith, z, i)));
         above = λ q i. get_or-set_other fates r q _ 0 (λ z. omega (arith, i, z)) ∙ g.above q (omega arith);
       }

@@ -5,14 +5,15 @@
 ghost use Rattle.std.specs.Prelude.{◌≡◌, not, ◌<◌, eqb, length, get_or, set};
 ghost use Rattle.rules.specs.Answers.{check_number};
 
-use rules::{Checked, Row};
+use refusal_numbers::Number;
+use rules::{Refusal, Row};
 
 // Notes the fate of a row, by the conflict that it has.
-pub fn note(fates: &mut [u32], row: Row, conflict: Checked)
+pub fn note(fates: &mut [u32], row: Row, conflict: Result<(), Refusal>)
     requires { row.0 < length fates.old }
     ensures { fates.new ≡ set fates.old row.0 (check_number conflict).number }
 {
-    let told = answers::check_number(conflict);
+    let told = Number::from(conflict);
     fates[row.0 as usize] = told.number;
 }
 

@@ -6,68 +6,47 @@ ghost use Rattle.rules.specs.Refusals.{verdict, fields_refusal};
 ghost use Rattle.fields.specs.Passes.{places_refusal, lengths_refusal};
 
 use crate::plain;
-use rules::{Checked, Row};
+use rules::{Refusal, Row};
 use single_fields::{empty, place};
 
 // The first refusal that a field of the row draws.
-pub fn check(table: &[u32], pool: &[u8], row: Row) -> Checked
+pub fn check(table: &[u32], pool: &[u8], row: Row) -> Result<(), Refusal>
     requires { row.0 < row_count table.now }
     ensures { result ≡ verdict (fields_refusal (length pool.now) row.0 (node_at table.now pool.now row.0)) }
 {
     if plain::is_plain(table, pool, row) {
-        return Checked::Accepted;
+        return Ok(());
     }
     check_each(table, pool, row)
 }
 
 // The two passes.
-fn check_each(table: &[u32], pool: &[u8], row: Row) -> Checked
+fn check_each(table: &[u32], pool: &[u8], row: Row) -> Result<(), Refusal>
     requires { row.0 < row_count table.now }
     ensures { result ≡ verdict (fields_refusal (length pool.now) row.0 (node_at table.now pool.now row.0)) }
 {
-    let drawn = check_places(table, pool, row);
-    let Checked::Accepted = drawn else {
-        return drawn;
-    };
+    check_places(table, pool, row)?;
     check_lengths(table, pool, row)
 }
 
 // The first pass: refusals 3 and 12.
-fn check_places(table: &[u32], pool: &[u8], row: Row) -> Checked
+fn check_places(table: &[u32], pool: &[u8], row: Row) -> Result<(), Refusal>
     requires { row.0 < row_count table.now }
     ensures { result ≡ verdict (places_refusal table.now pool.now row.0) }
 {
-    let prefix = place::check(table, pool, row, rules::PREFIX);
-    let Checked::Accepted = prefix else {
-        return prefix;
-    };
-    let local_name = place::check(table, pool, row, rules::LOCAL_NAME);
-    let Checked::Accepted = local_name else {
-        return local_name;
-    };
-    let uri = place::check(table, pool, row, rules::URI);
-    let Checked::Accepted = uri else {
-        return uri;
-    };
+    place::check(table, pool, row, rules::PREFIX)?;
+    place::check(table, pool, row, rules::LOCAL_NAME)?;
+    place::check(table, pool, row, rules::URI)?;
     place::check(table, pool, row, rules::VALUE)
 }
 
 // The second pass: refusal 13.
-fn check_lengths(table: &[u32], pool: &[u8], row: Row) -> Checked
+fn check_lengths(table: &[u32], pool: &[u8], row: Row) -> Result<(), Refusal>
     requires { row.0 < row_count table.now }
     ensures { result ≡ verdict (lengths_refusal table.now pool.now row.0) }
 {
-    let prefix = empty::check(table, pool, row, rules::PREFIX);
-    let Checked::Accepted = prefix else {
-        return prefix;
-    };
-    let local_name = empty::check(table, pool, row, rules::LOCAL_NAME);
-    let Checked::Accepted = local_name else {
-        return local_name;
-    };
-    let uri = empty::check(table, pool, row, rules::URI);
-    let Checked::Accepted = uri else {
-        return uri;
-    };
+    empty::check(table, pool, row, rules::PREFIX)?;
+    empty::check(table, pool, row, rules::LOCAL_NAME)?;
+    empty::check(table, pool, row, rules::URI)?;
     empty::check(table, pool, row, rules::VALUE)
 }

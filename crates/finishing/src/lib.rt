@@ -5,7 +5,7 @@ ghost use Rattle.std.specs.Prelude.{◌≡◌, ◌*◌, ◌≤◌, length};
 ghost use Rattle.rules.specs.Table.{WIDTH};
 ghost use Rattle.outputs.specs.Ended.{ended};
 
-use rules::{Checked, Filled};
+use rules::{Filled, Refusal};
 
 // Ends a normalization whose result takes so many rows of the output table and so many bytes of a working pool: judges the room
 // for it, and completes the outputs or refuses. More rows than the limit stand for any result that does not fit.
@@ -16,19 +16,19 @@ pub fn finish(
     rows: usize,
     bytes: usize,
     limit: usize,
-) -> Filled
+) -> Result<Filled, Refusal>
     requires { rows ≤ limit → (WIDTH * rows ≤ length out_table.old) × (bytes ≤ length work.now) }
     ensures value { result ≡ (ended limit out_table.old (length out_pool.old) work.now rows bytes).answer }
     ensures out_table_after { out_table.new ≡ (ended limit out_table.old (length out_pool.old) work.now rows bytes).table }
     ensures out_pool_after { out_pool.new ≡ (ended limit out_table.old (length out_pool.old) work.now rows bytes).pool }
 {
     match outputs::room(rows, bytes, limit, out_pool.len()) {
-        Checked::Accepted => {
+        Ok(()) => {
             buffers::clear_words(out_table, rows);
             buffers::copy_bytes(&work[..bytes], out_pool);
             buffers::clear_bytes(out_pool, bytes);
-            Filled::Done { rows, bytes }
+            Ok(Filled { rows, bytes })
         }
-        Checked::Refused(why) => outputs::refuse(out_table, out_pool, why),
+        Err(why) => outputs::refuse(out_table, out_pool, why),
     }
 }

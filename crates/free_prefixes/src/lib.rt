@@ -24,6 +24,7 @@ pub fn least_unused(tops: &[u16], path: &[u16], from: u16) -> u16
     ensures { LeastUnused tops.now path.now from result }
 {
     let mut k = from;
+    // No last number is known: a range would find an `Option` that is never `None`.
     while is_used(tops, path, k) {
         k += 1;
     }

@@ -7,19 +7,24 @@ ghost use Rattle.rules.specs.Refusals.{verdict};
 ghost use Rattle.rules.specs.declared.Refusal.{Refusal};
 ghost use Rattle.proposals.specs.Proposals.{lowest, is_foreign};
 
-use rules::{Checked, Refusal, Row};
+use rules::{Refusal, Row};
 
 // Refusal 43, for the lowest row that is added and no declaration.
-pub fn check_further(original: &[u32], pool: &[u8], proposal: &[u32], other: &[u8]) -> Checked
+pub fn check_further(
+    original: &[u32],
+    pool: &[u8],
+    proposal: &[u32],
+    other: &[u8],
+) -> Result<(), Refusal>
     requires { (row_count original.now ≤ MOST_ROWS) × (row_count proposal.now ≤ MOST_ROWS) }
     ensures { result ≡ verdict (lowest (is_foreign (nodes original.now pool.now) (nodes proposal.now other.now)) Refusal.Changed (length (nodes proposal.now other.now))) }
 {
-    let mut r = rows::row_count(original) as u32;
-    while rows::has_row(proposal, Row(r)) {
+    let kept = rows::row_count(original) as u32;
+    let rows = rows::row_count(proposal) as u32;
+    for r in kept..rows {
         if rows::kind(proposal, Row(r)) != rules::DECLARATION {
-            return Checked::Refused(Refusal::Changed(Row(r)));
+            return Err(Refusal::Changed(Row(r)));
         }
-        r += 1;
     }
-    Checked::Accepted
+    Ok(())
 }

@@ -8,19 +8,16 @@ ghost use Rattle.rules.specs.Refusals.{is_first_byte, is_name_byte, good_name};
 pub fn good_name(name: &[u8], colons: bool) -> bool
     ensures { result ≡ good_name colons name.now }
 {
-    if name.len() == 0 {
+    let Some((first, rest)) = name.split_first() else {
         return true;
-    }
-    let first = name[0];
-    if !is_first_byte(first, colons) {
+    };
+    if !is_first_byte(*first, colons) {
         return false;
     }
-    let mut i = 1;
-    while i < name.len() {
-        if !is_name_byte(name[i], colons) {
+    for byte in rest {
+        if !is_name_byte(*byte, colons) {
             return false;
         }
-        i += 1;
     }
     true
 }

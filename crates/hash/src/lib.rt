@@ -27,9 +27,7 @@ fn mix_long(name: &[u8]) -> u32
         four(name, size - 8),
         four(name, size - 4),
     );
-    let mut k = (size - 1) / 8;
-    while k > 0 {
-        k -= 1;
+    for k in (0..(size - 1) / 8).rev() {
         h = mix(h, four(name, 8 * k), four(name, 8 * k + 4));
     }
     h

@@ -56,12 +56,10 @@ fn by_words(table: &[u32], from: Pair) -> Pair
 {
     let mut one = from.one;
     let mut two = from.two;
-    let mut i = 0;
-    while i < table.len() {
-        let next = stir(one, two, table[i]);
+    for word in table {
+        let next = stir(one, two, *word);
         one = next.one;
         two = next.two;
-        i += 1;
     }
     Pair { one, two }
 }
@@ -72,12 +70,10 @@ fn by_bytes(pool: &[u8], from: Pair) -> Pair
 {
     let mut one = from.one;
     let mut two = from.two;
-    let mut i = 0;
-    while i < pool.len() {
-        let next = stir(one, two, four(pool, i));
+    for k in 0..pool.len().div_ceil(4) {
+        let next = stir(one, two, four(pool, 4 * k));
         one = next.one;
         two = next.two;
-        i += 4;
     }
     Pair { one, two }
 }

@@ -11,8 +11,7 @@ ghost use Rattle.input.specs.Lent.{Blank};
 ghost use Rattle.normal_form.specs.Result.{RoomFor, Made};
 ghost use Rattle.normal_form.specs.Lent.{Topped};
 
-use input::Judged;
-use rules::Filled;
+use rules::{Filled, Refusal};
 
 // The words and bytes that any result of a small table and its pool has room in.
 pub const FEW_WORDS: usize = rules::WIDTH * 2 * table_size::FEW_ROWS;
@@ -20,7 +19,12 @@ pub const FEW_WORDS: usize = rules::WIDTH * 2 * table_size::FEW_ROWS;
 pub const FEW_WORK: usize = table_size::FEW_BYTES + 6 * table_size::FEW_ROWS;
 
 // Normalizes in place, in arrays for a small table.
-pub fn normalize_few(words: &mut [u32], work: &mut [u8], rows: usize, bytes: usize) -> Filled
+pub fn normalize_few(
+    words: &mut [u32],
+    work: &mut [u8],
+    rows: usize,
+    bytes: usize,
+) -> Result<Filled, Refusal>
     requires room_for { RoomFor words.old work.old rows bytes }
     requires rows_bound { rows ≤ FEW_ROWS }
     ensures { Made result words.new work.new (take (WIDTH * rows) words.old) (take bytes work.old) }
@@ -42,7 +46,12 @@ pub fn normalize_few(words: &mut [u32], work: &mut [u8], rows: usize, bytes: usi
 }
 
 // Normalizes in place, in arrays for any table.
-pub fn normalize(words: &mut [u32], work: &mut [u8], rows: usize, bytes: usize) -> Filled
+pub fn normalize(
+    words: &mut [u32],
+    work: &mut [u8],
+    rows: usize,
+    bytes: usize,
+) -> Result<Filled, Refusal>
     requires { RoomFor words.old work.old rows bytes }
     ensures { Made result words.new work.new (take (WIDTH * rows) words.old) (take bytes work.old) }
 {
@@ -72,23 +81,19 @@ fn normalize_lent(
     tops: &mut [u16],
     rows: usize,
     bytes: usize,
-) -> Filled
+) -> Result<Filled, Refusal>
     requires room_for { RoomFor words.old work.old rows bytes }
     requires blank { Blank rows notes.old path.old }
     requires numbering { Numbering (take (WIDTH * rows) words.old) dictionary.old notes.old }
     requires topped { Topped rows tops.old }
     ensures { Made result words.new work.new (take (WIDTH * rows) words.old) (take bytes work.old) }
 {
-    match input::judge(
+    let names = input::judge(
         &words[..rules::WIDTH * rows],
         &work[..bytes],
         dictionary,
         notes,
         path,
-    ) {
-        Judged::Numbered(names) => {
-            made_in_place::normalize_accepted(words, work, notes, path, tops, rows, bytes, names)
-        }
-        Judged::Refused(why) => Filled::Refused(why),
-    }
+    )?;
+    made_in_place::normalize_accepted(words, work, notes, path, tops, rows, bytes, names)
 }

@@ -20,21 +20,21 @@ pub fn in_scope_uri(
     path: &[u32],
     prefix: &[u8],
     number: NameId,
-) -> Bound
+) -> Option<Bound>
     requires { Along table.now notes.now path.now }
     ensures { (pool : List ℕ) → Meant table.now pool notes.now number.0 prefix.now → result ≡ bound (in_scope_uri (scope_of (nodes table.now pool) path.now) prefix.now) }
 {
     if built_ins::is_xml(prefix) {
-        return Bound::Xml;
+        return Some(Bound::Xml);
     }
     if built_ins::is_xmlns(prefix) {
-        return Bound::Xmlns;
+        return Some(Bound::Xmlns);
     }
     let row = declarations::nearest(table, notes, path, number);
     if declarations::value_of(table, notes, row).0 == 0 {
-        return Bound::Nothing;
+        return None;
     }
-    Bound::At(rows::place(table, row, rules::VALUE))
+    Some(Bound::At(rows::place(table, row, rules::VALUE)))
 }
 
 // The in-scope prefix of a URI that has this number.
@@ -44,24 +44,24 @@ pub fn in_scope_prefix(
     path: &[u32],
     uri: &[u8],
     number: NameId,
-) -> Bound
+) -> Option<Bound>
     requires { Along table.now notes.now path.now }
     ensures { (pool : List ℕ) → Meant table.now pool notes.now number.0 uri.now → result ≡ bound (in_scope_prefix (scope_of (nodes table.now pool) path.now) uri.now) }
 {
     if uri.len() == 0 {
-        return Bound::Nothing;
+        return None;
     }
     if built_ins::is_xml_uri(uri) {
-        return Bound::Xml;
+        return Some(Bound::Xml);
     }
     if built_ins::is_xmlns_uri(uri) {
-        return Bound::Xmlns;
+        return Some(Bound::Xmlns);
     }
     let row = serving(table, notes, path, number);
     if rows::has_row(table, row) {
-        return Bound::At(rows::place(table, row, rules::LOCAL_NAME));
+        return Some(Bound::At(rows::place(table, row, rules::LOCAL_NAME)));
     }
-    Bound::Nothing
+    None
 }
 
 // The first declaration along a path that gives a URI a prefix which no nearer declaration rebinds. The
@@ -70,15 +70,11 @@ fn serving(table: &[u32], notes: &[u16], path: &[u32], uri: NameId) -> Row
     requires { Along table.now notes.now path.now }
     ensures { (pool name : List ℕ) → Meant table.now pool notes.now uri.0 name → same_bytes name xml_uri ≡ false → found (nodes table.now pool) result.0 ≡ first_that (serves (scope_of (nodes table.now pool) path.now) name) (scope_of (nodes table.now pool) path.now) }
 {
-    let wanted = uri.0;
-    let mut i: usize = 0;
-    while i < path.len() {
-        let element = rows::row_at(path, i);
-        let declaration = own_serving(table, notes, path, element, NameId(wanted));
+    for element in path {
+        let declaration = own_serving(table, notes, path, Row(*element), uri);
         if rows::has_row(table, declaration) {
             return declaration;
         }
-        i += 1;
     }
     Row(rules::NONE)
 }

@@ -1,5 +1,6 @@
 -- The refusals that the input draws.
 -- Assumes nothing.
+use Rattle.std.specs.Prelude.{Result, Ok, Err, ⊤}
 use Prim.Native.Nat.{ℕ, ◌≤◌}
 use mathlib.Core.Path.{◌≡◌, refl, sym, ◌∙◌}
 use mathlib.Core.List.{List, [], ◌∷◌}
@@ -8,7 +9,6 @@ use Rattle.rules.specs.Table.{MOST_ROWS, nodes, row_count}
 use Rattle.rules.specs.Refusals.{first_refusal, verdict, check_refusal, checked}
 use Rattle.rules.specs.Normalization.{level1_refusal}
 use Rattle.rules.specs.declared.Refusal.{Refusal}
-use Rattle.rules.specs.declared.Checked.{Checked}
 use Rattle.rules.proofs.Refusals.{all_none, verdict-accepted, verdict-refused}
 use Rattle.rules.proofs.Accepted.{Accepted, accepted, unrefused, few-rows}
 use Rattle.input.specs.Input.{input_refusal}
@@ -19,12 +19,12 @@ first_one (some x) = refl
 
 module _ (table pool : List ℕ) where
   -- What the check answers.
-  module _ {drawn : Checked} (is : drawn ≡ checked table pool) where
-    pub check-refused : (x : Refusal) → drawn ≡ Checked.Refused x → input_refusal table pool ≡ some x
+  module _ {drawn : Result ⊤ Refusal} (is : drawn ≡ checked table pool) where
+    pub check-refused : (x : Refusal) → drawn ≡ Err x → input_refusal table pool ≡ some x
     unfolding input_refusal checked
     check-refused x told = rw (verdict-refused (check_refusal table pool) x (sym is ∙ told)) refl
 
-    module _ (told : drawn ≡ Checked.Accepted) where
+    module _ (told : drawn ≡ Ok tt) where
       pub judge-few : row_count table ≤ MOST_ROWS
       judge-few = few-rows table pool (accepted table pool (sym is ∙ told)).size
 
@@ -33,11 +33,11 @@ module _ (table pool : List ℕ) where
       then-level1 = rw (verdict-accepted (check_refusal table pool) (sym is ∙ told)) (first_one (level1_refusal (nodes table pool)))
 
       -- And then the rows of DOM Level 1.
-      module _ {r : Checked} (scanned : r ≡ verdict (level1_refusal (nodes table pool))) where
-        pub level1-refused : (x : Refusal) → r ≡ Checked.Refused x → input_refusal table pool ≡ some x
+      module _ {r : Result ⊤ Refusal} (scanned : r ≡ verdict (level1_refusal (nodes table pool))) where
+        pub level1-refused : (x : Refusal) → r ≡ Err x → input_refusal table pool ≡ some x
         level1-refused x e = then-level1 ∙ verdict-refused (level1_refusal (nodes table pool)) x (sym scanned ∙ e)
 
-        pub none-refused : r ≡ Checked.Accepted → input_refusal table pool ≡ none
+        pub none-refused : r ≡ Ok tt → input_refusal table pool ≡ none
         none-refused e = then-level1 ∙ verdict-accepted (level1_refusal (nodes table pool)) (sym scanned ∙ e)
 
   -- The input draws none.

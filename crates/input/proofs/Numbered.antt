@@ -1,5 +1,6 @@
 -- The numbers of the names when the input is judged.
 -- Assumes nothing.
+use Rattle.std.specs.Prelude.{Result, Ok, Err}
 use Prim.Native.Nat.{ℕ, zero, suc, ◌+◌, ◌*◌, ◌≤◌, ◌<◌, max}
 use mathlib.Core.Path.{◌≡◌, refl, ◌∙◌, ap, subst}
 use mathlib.Core.Bool.{true, false, true≢false}
@@ -25,7 +26,6 @@ use Rattle.stacks.specs.Stacks.{BELOW, NUMBERED, under_at}
 use Rattle.input.proofs.Xml.{numbers-start}
 use Rattle.input.specs.Input.{input_refusal}
 use Rattle.input.specs.Lent.{Blank, Entered, Prepared}
-use Rattle.input.specs.declared.Judged.{Judged}
 
 -- Zeros are cleared arrays.
 pub zeros : (size i : ℕ) → ◌≡◌ {A = ℕ} (get_or (replicate size 0) i 0) 0
@@ -87,13 +87,13 @@ module _ (dictionary pool before path after : List ℕ) (x : ℕ) (cleared : (i 
 
 -- What `judge` answers.
 module _ (table pool notes path : List ℕ) where
-  abbrev pub JudgedAs : Judged → Type 0
-  JudgedAs r = ((n : ℕ) → r ≡ Judged.Numbered n → Prepared table pool notes path n) × ((y : Refusal) → r ≡ Judged.Refused y → input_refusal table pool ≡ some y)
+  abbrev pub JudgedAs : Result ℕ Refusal → Type 0
+  JudgedAs r = ((n : ℕ) → r ≡ Ok n → Prepared table pool notes path n) × ((y : Refusal) → r ≡ Err y → input_refusal table pool ≡ some y)
 
-  pub judged-refused : (x : Refusal) → input_refusal table pool ≡ some x → JudgedAs (Judged.Refused x)
+  pub judged-refused : (x : Refusal) → input_refusal table pool ≡ some x → JudgedAs (Err x)
   judged-refused x is = (λ n e. let bad : true ≡ false = cc in absurd (true≢false bad), λ y e. let same : x ≡ y = cc in is ∙ ap some same)
 
-  pub judged-numbered : (k : ℕ) → Prepared table pool notes path k → JudgedAs (Judged.Numbered k)
+  pub judged-numbered : (k : ℕ) → Prepared table pool notes path k → JudgedAs (Ok k)
   judged-numbered k prepared = (
     λ n e. let same : k ≡ n = cc in subst (Prepared table pool notes path) same prepared,
     λ y e. let bad : true ≡ false = cc in absurd (true≢false bad),

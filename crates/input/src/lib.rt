@@ -1,7 +1,7 @@
 // The input of normalization: the refusals that it draws whatever its result, or the numbers of its names.
 #![tactic(auto)]
 
-ghost use Rattle.std.specs.Prelude.{◌≡◌, ℕ, ◌≤◌, ◌<◌, length, get_or};
+ghost use Rattle.std.specs.Prelude.{◌≡◌, ℕ, ◌≤◌, ◌<◌, length, get_or, Ok, Err};
 ghost use Rattle.std.proofs.Math.Option.{some};
 ghost use Rattle.rules.specs.Table.{row_count};
 ghost use Rattle.rules.specs.declared.Refusal.{Refusal};
@@ -10,9 +10,8 @@ ghost use Rattle.checker.specs.Lent.{Lent as Numbering};
 ghost use Rattle.stacks.specs.Stacks.{PATH as PATH_WORDS};
 ghost use Rattle.input.specs.Input.{input_refusal};
 ghost use Rattle.input.specs.Lent.{Blank, Entered, Prepared};
-ghost use Rattle.input.specs.declared.Judged.{Judged};
 
-use rules::{Checked, Refusal};
+use rules::Refusal;
 
 // The words of the notes and of the path that are lent for a small table and for any. A result has at most
 // twice the rows of its table.
@@ -24,34 +23,23 @@ pub const NOTES: usize = checker::NOTES;
 
 pub const PATH: usize = stacks::PATH * rules::MOST_ROWS + stacks::PATH;
 
-// How many names of the input have numbers, or a refusal.
-#[derive(Clone, Copy)]
-pub enum Judged {
-    Numbered(u16),
-    Refused(Refusal),
-}
-
-// The refusals that the input draws, the check's and then 9; or its names get their numbers. The
-// dictionary of the names is not needed any more after that.
+// The refusals that the input draws, the check's and then 9; or its names get their numbers, and how many have one is answered.
+// The dictionary of the names is not needed any more after that.
 pub fn judge(
     table: &[u32],
     pool: &[u8],
     dictionary: &mut [u16],
     notes: &mut [u16],
     path: &mut [u16],
-) -> Judged
+) -> Result<u16, Refusal>
     requires blank { Blank (row_count table.now) notes.old path.old }
     requires numbering { Numbering table.now dictionary.old notes.old }
-    ensures by_index { (names : ℕ) → result ≡ Judged.Numbered names → Prepared table.now pool.now notes.new path.new names }
-    ensures pool_value { (x : Refusal) → result ≡ Judged.Refused x → input_refusal table.now pool.now ≡ some x }
+    ensures by_index { (names : ℕ) → result ≡ Ok names → Prepared table.now pool.now notes.new path.new names }
+    ensures pool_value { (x : Refusal) → result ≡ Err x → input_refusal table.now pool.now ≡ some x }
 {
-    match checker::check_numbered(table, pool, dictionary, notes) {
-        Checked::Accepted => match levels::level1(table) {
-            Checked::Accepted => Judged::Numbered(enter_names(dictionary, pool, path)),
-            Checked::Refused(why) => Judged::Refused(why),
-        },
-        Checked::Refused(earlier) => Judged::Refused(earlier),
-    }
+    checker::check_numbered(table, pool, dictionary, notes)?;
+    levels::level1(table)?;
+    Ok(enter_names(dictionary, pool, path))
 }
 
 // Enters the numbers of the NS prefixes and of xml, the next one where it has none. Answers how

@@ -1,5 +1,6 @@
 -- What is read of a row of the original and of the proposal's tells whether it is kept.
 -- Assumes nothing.
+use Rattle.std.specs.Prelude.{Result, Ok, Err, ⊤}
 use Prim.Native.Nat.{ℕ, zero, suc, ◌+◌, ◌≤◌, ◌<◌}
 use mathlib.Core.Path.{◌≡◌, refl, sym, ap, ◌∙◌, subst}
 use mathlib.Core.Bool.{Bool, true, false, ◌&&◌, ◌||◌, not, true≢false, and-false}
@@ -14,7 +15,6 @@ use Rattle.rules.specs.Lists.{numbers_from, same_bytes}
 use Rattle.rules.specs.Table.{LOCAL_NAME, URI, TEXT, DECLARATION, Node, worded_fields, nodes, node_at, node, part, word, row_count, is_level1}
 use Rattle.rules.specs.Refusals.{must_be_empty, place_refusal, length_refusal, fields_refusal, refused_if, first_refusal, verdict, check_refusal}
 use Rattle.rules.specs.declared.Refusal.{Refusal}
-use Rattle.rules.specs.declared.Checked.{Checked}
 use Rattle.rules.proofs.Lists.{both_true, not-true, not-false}
 use Rattle.rules.proofs.Table.{length-nodes, node-nodes}
 use Rattle.rules.proofs.Refusals.{not-refused, all_none, none-lowest, lowest-none, verdict-accepted, first_alone, first-refused, first-passed}
@@ -128,9 +128,7 @@ module _ (original pool proposal other : List ℕ) (r : ℕ) (inside : r < row_c
       rw (length-nodes proposal other, lt-ltb r (row_count proposal) there, node-nodes original pool r inside, node-nodes proposal other r there) (ap not e)
 
 -- The loop over the rows of the original has come to row r.
-pub record Keeping (original pool mine proposal other theirs met₀ known₀ met known : List ℕ) (r : ℕ) : Type 0 where
-  pub words : length met ≡ length met₀
-  pub level : length known ≡ length known₀
+pub record Keeping (original pool mine proposal other theirs met known : List ℕ) (r : ℕ) : Type 0 where
   pub meeting : Meeting original pool mine proposal other theirs met
   pub pairs : Pairs known pool other
   pub scanning : Scanning (is_lost (nodes original pool) (nodes proposal other)) Refusal.Changed (length (nodes original pool)) r
@@ -168,20 +166,20 @@ module _ (ns ms : List Node) where
       rw level refl))
 
   -- 43, from both parts.
-  abbrev second : List Node → List Node → Checked
+  abbrev second : List Node → List Node → Result ⊤ Refusal
   second ns ms = verdict (lowest (is_foreign ns ms) Refusal.Changed (length ms))
 
-  module _ {kept : Checked} (told : kept ≡ verdict lost) where
-    pub kept-refused : (x : Refusal) → kept ≡ Checked.Refused x → level_refusal ns ≡ none → Checked.Refused x ≡ verdict (changes_refusal ns ms)
+  module _ {kept : Result ⊤ Refusal} (told : kept ≡ verdict lost) where
+    pub kept-refused : (x : Refusal) → kept ≡ Err x → level_refusal ns ≡ none → Err x ≡ verdict (changes_refusal ns ms)
     kept-refused x is level = sym is ∙ first-refused changes (lowest (is_foreign ns ms) Refusal.Changed (length ms) ∷ []) (told ∙ ap verdict (lost-changed level)) x is
 
-    pub kept-level2 : kept ≡ Checked.Accepted → level_refusal ns ≡ none
+    pub kept-level2 : kept ≡ Ok tt → level_refusal ns ≡ none
     kept-level2 is = level2 (verdict-accepted lost (sym told ∙ is))
 
-    pub kept-passed : kept ≡ Checked.Accepted → {further : Checked} → further ≡ second ns ms → further ≡ verdict (changes_refusal ns ms)
+    pub kept-passed : kept ≡ Ok tt → {further : Result ⊤ Refusal} → further ≡ second ns ms → further ≡ verdict (changes_refusal ns ms)
     kept-passed is e =
         e ∙ ap verdict (first_alone (lowest (is_foreign ns ms) Refusal.Changed (length ms)) ∙ sym (first-passed changes (lowest (is_foreign ns ms) Refusal.Changed (length ms) ∷ []) (told ∙ ap verdict (lost-changed (kept-level2 is))) is))
 
 -- What is refused is not accepted.
-pub refused-not : {x : Refusal} {o : Option Refusal} → Checked.Refused x ≡ Checked.Accepted → o ≡ none
+pub refused-not : {x : Refusal} {o : Option Refusal} → ◌≡◌ {A = Result ⊤ Refusal} (Err x) (Ok tt) → o ≡ none
 refused-not e = cc

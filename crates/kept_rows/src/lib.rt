@@ -2,19 +2,18 @@
 // pool is the other one. A row of DOM Level 1 ends the comparison too: what it is refused for comes first.
 #![tactic(auto)]
 
-ghost use Rattle.std.specs.Prelude.{◌≡◌, true, ◌&&◌, not, ◌<◌, length};
+ghost use Rattle.std.specs.Prelude.{◌≡◌, true, ◌&&◌, not, ◌<◌, length, Ok};
 ghost use Rattle.std.proofs.Math.Option.{none};
 ghost use Rattle.rules.specs.Table.{row_count, node_at, nodes, is_level1};
 ghost use Rattle.rules.specs.Refusals.{verdict, check_refusal};
 ghost use Rattle.rules.specs.declared.Refusal.{Refusal};
-ghost use Rattle.rules.specs.declared.Checked.{Checked};
 ghost use Rattle.proposals.specs.Proposals.{lowest, keeps_row, level_refusal, changes_refusal};
 ghost use Rattle.pairs.specs.Pairs.{Alike, Pairs};
 ghost use Rattle.name_pairs.specs.Noted.{Noted};
 ghost use Rattle.kept_fields.specs.Fields.{Placed, Meeting};
 ghost use Rattle.kept_rows.specs.Lost.{is_lost};
 
-use rules::{Checked, Refusal, Row};
+use rules::{Refusal, Row};
 
 // Refusal 43, for the lowest row that is missing or changed, or that is added and no declaration, where the original has no row
 // of DOM Level 1. Where it has one, something is refused.
@@ -25,21 +24,19 @@ pub fn check(
     proposal: &[u32],
     other: &[u8],
     theirs: &[u16],
-) -> Checked
+) -> Result<(), Refusal>
     requires pool_value { (check_refusal original.now pool.now ≡ none) × (check_refusal proposal.now other.now ≡ none) }
     requires noted { (Noted original.now pool.now mine.now) × (Noted proposal.now other.now theirs.now) }
-    ensures pool_value_2 { result ≡ Checked.Accepted → level_refusal (nodes original.now pool.now) ≡ none }
+    ensures pool_value_2 { result ≡ Ok tt → level_refusal (nodes original.now pool.now) ≡ none }
     ensures value { level_refusal (nodes original.now pool.now) ≡ none → result ≡ verdict (changes_refusal (nodes original.now pool.now) (nodes proposal.now other.now)) }
 {
     let mut met = [0; name_pairs::WORDS];
     let mut known = [0; pairs::WORDS];
     let alike = pairs::begin_alike(pool, other);
-    match check_kept(
+    check_kept(
         original, pool, mine, proposal, other, theirs, alike, &mut met, &mut known,
-    ) {
-        Checked::Accepted => further_rows::check_further(original, pool, proposal, other),
-        Checked::Refused(why) => Checked::Refused(why),
-    }
+    )?;
+    further_rows::check_further(original, pool, proposal, other)
 }
 
 // The same of the rows of the original.
@@ -53,17 +50,17 @@ fn check_kept(
     alike: bool,
     met: &mut [u16],
     known: &mut [u16],
-) -> Checked
+) -> Result<(), Refusal>
     requires placed { (Placed original.now pool.now) × (Placed proposal.now other.now) }
     requires meeting { Meeting original.now pool.now mine.now proposal.now other.now theirs.now met.old }
     requires pairs { Pairs known.old pool.now other.now }
     requires alike { alike ≡ true → Alike pool.now other.now }
     ensures { result ≡ verdict (lowest (is_lost (nodes original.now pool.now) (nodes proposal.now other.now)) Refusal.Changed (length (nodes original.now pool.now))) }
 {
-    let mut r: u32 = 0;
-    while rows::has_row(original, Row(r)) {
+    let rows = rows::row_count(original) as u32;
+    for r in 0..rows {
         if !rows::has_row(proposal, Row(r)) {
-            return Checked::Refused(Refusal::Changed(Row(r)));
+            return Err(Refusal::Changed(Row(r)));
         }
         if !keeps_row(
             original,
@@ -77,11 +74,10 @@ fn check_kept(
             known,
             Row(r),
         ) {
-            return Checked::Refused(Refusal::Changed(Row(r)));
+            return Err(Refusal::Changed(Row(r)));
         }
-        r += 1;
     }
-    Checked::Accepted
+    Ok(())
 }
 
 // The original's row is not of DOM Level 1, and the proposal's keeps what it has.

@@ -74,7 +74,7 @@ module _ {table fates out₀ out numbers : List ℕ} {kept r : ℕ} (s : Sorted 
   abbrev noted : List ℕ
   noted = set numbers r kept
 
-  pub noted-array : length noted ≡ MOST_ROWS
+  noted-array : length noted ≡ MOST_ROWS
   noted-array = length-set numbers r kept ∙ g.array
 
   noted-before : (q : ℕ) → q < r + 1 → get_or noted q 0 ≡ kept_count fates q
@@ -84,14 +84,6 @@ module _ {table fates out₀ out numbers : List ℕ} {kept r : ℕ} (s : Sorted 
       by_cases (eqb q r)
       (λ e. rw (eqb-true q r e) (get_or-set_same numbers r kept 0 (omega arith) ∙ g.count))
       (λ e. let d = eqb-false q r e in get_or-set_other numbers r q kept 0 d ∙ g.before q (omega arith))
-
-  -- Its parent is NONE, or a row whose number is noted.
-  pub going-parent : (size : ℕ) → size ≡ MOST_ROWS → (word table r PARENT ≡ NONE) ⊎ (word table r PARENT < size)
-  going-parent size e = go (s.behind r h)
-    where
-      go : (word table r PARENT ≡ NONE) ⊎ (word table r PARENT < r) → (word table r PARENT ≡ NONE) ⊎ (word table r PARENT < size)
-      go (inl z) = inl z
-      go (inr b) = let few = s.few in inr (omega arith)
 
   parent-known : renumbered noted (word table r PARENT) ≡ parent_among fates (word table r PARENT)
   unfolding renumbered parent_among
@@ -114,8 +106,8 @@ module _ {table fates out₀ out numbers : List ℕ} {kept r : ℕ} (s : Sorted 
       let all : length (kept_words table fates (r + 1)) ≤ length (kept_words table fates (row_count table)) = rw last at (grown table fates (r + 1) (row_count table - (r + 1))) in
       omega (arith, all, kept-long k, room, g.size, e)
 
-  pub going-few : (kept ≤ r) × (r < MOST_ROWS)
-  going-few = (omega (arith, count-few table fates r, g.count), omega (arith, s.few))
+  pub going-few : kept ≤ r
+  going-few = omega (arith, count-few table fates r, g.count)
 
   -- It is written behind what is there, or left out.
   placed : eqb (get_or fates r 0) 0 ≡ true → written out (WIDTH * kept) (row_words table r (renumbered noted (word table r PARENT))) ≡ written out₀ 0 (kept_words table fates (r + 1))

@@ -17,11 +17,9 @@ pub fn write(table: &[u32], fates: &[u32], out: &mut [u32])
 {
     let mut numbers = [0; rules::MOST_ROWS];
     let mut kept: u32 = 0;
-    let mut r: u32 = 0;
-    while rows::has_row(table, Row(r)) {
+    for r in 0..rows::row_count(table) as u32 {
         numbers[r as usize] = kept;
         kept = write_row(table, fates, &numbers, out, Row(r), Row(kept)).0;
-        r += 1;
     }
 }
 

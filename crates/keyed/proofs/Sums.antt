@@ -8,6 +8,8 @@ use native.Mathlib.Omega.{arith}
 use native.Mathlib.Numerals.{add-one}
 use lib.ListN.{length, get_or, take, drop, length-drop, drop_of_length-le}
 use lib.Seq.{drop-cons, length-take-le}
+use Rattle.std.specs.Simd.{first_chunks}
+use Rattle.std.proofs.lemmas.List.{get_or-drop}
 use Rattle.keyed.specs.Keyed.{PRIME, pushed, between, sum_from, raised_from}
 
 -- A factor may be reduced first.
@@ -261,3 +263,25 @@ pub until-told :
 until-told base pool m end number from r l f n e =
     let w : r ≡ sum_from base 0 (take end pool) = e ∙ ap (λ (h : ℕ). sum_from base h (between pool m end)) (f ∙ n) ∙ sum-taken base pool 0 m end l in
     (w, rw w (sum_lt base 0 (take end pool) (omega arith)))
+
+-- The pairs of bytes that a string begins with.
+pub pair-at :
+    (bs : List ℕ) (k i : ℕ) → i < k
+    → (get_or (get_or (first_chunks 2 k bs) i []) 0 0 ≡ get_or bs (2 * i) 0) × (get_or (get_or (first_chunks 2 k bs) i []) 1 0 ≡ get_or bs (2 * i + 1) 0)
+pair-at bs zero i h = absurd (omega arith)
+pair-at [] (suc k) zero h = (refl, refl)
+pair-at (b ∷ []) (suc k) zero h = (refl, refl)
+pair-at (b ∷ c ∷ bs) (suc k) zero h = (refl, refl)
+pair-at bs (suc k) (suc i) h =
+    let more : 2 * suc i ≡ 2 + 2 * i = omega arith in
+    let rest = pair-at (drop 2 bs) k i (omega arith) in
+    let next : 2 * suc i + 1 ≡ 2 + (2 * i + 1) = omega arith in
+    (rw more (rest.0 ∙ get_or-drop 2 bs (2 * i) 0), rw next (rest.1 ∙ get_or-drop 2 bs (2 * i + 1) 0))
+
+-- The byte behind the pairs.
+pub odd-byte :
+    (bs : List ℕ) (i : ℕ) {rest : List ℕ} {b : ℕ} → rest ≡ drop (length bs / 2 * 2) bs → 2 * i ≡ length bs / 2 * 2
+    → b ≡ get_or rest 0 0 → b ≡ get_or bs (2 * i) 0
+odd-byte bs i e f g =
+    let place : length bs / 2 * 2 + 0 ≡ 2 * i = omega arith in
+    g ∙ ap (λ l. get_or l 0 0) e ∙ get_or-drop (length bs / 2 * 2) bs 0 0 ∙ ap (λ k. get_or bs k 0) place

@@ -26,16 +26,15 @@ pub fn summed(bytes: &[u8], bases: Pair, from: Pair) -> Pair
     let square2 = push(base2, base2, 0);
     let mut one = from.one;
     let mut two = from.two;
-    let mut i = 0;
-    while bytes.len() - i >= 2 {
-        let first = wide(bytes[i]) + 1;
-        let second = wide(bytes[i + 1]) + 1;
+    let (pairs, rest) = bytes.as_chunks::<2>();
+    for pair in pairs {
+        let first = wide(pair[0]) + 1;
+        let second = wide(pair[1]) + 1;
         one = push_two(base1, square1, one, first, second);
         two = push_two(base2, square2, two, first, second);
-        i += 2;
     }
-    if i < bytes.len() {
-        let last = wide(bytes[i]) + 1;
+    if let Some(byte) = rest.first() {
+        let last = wide(*byte) + 1;
         return Pair {
             one: push(base1, one, last),
             two: push(base2, two, last),
@@ -51,6 +50,7 @@ pub fn power(base: u32, n: usize) -> u32
     let mut square = base;
     let mut done: u32 = 1;
     let mut left = n;
+    // Halved each time, so no range gives what is left.
     while left > 0 {
         done = once(square, done, left);
         square = push(square, square, 0);

@@ -1,14 +1,15 @@
 -- Good names of ASCII: they are good, and well-formed. And how the code finds them, part after part.
 -- Assumes nothing.
-use Prim.Native.Nat.{ℕ, ◌+◌, ◌-◌, ◌≤◌}
+use Prim.Native.Nat.{ℕ, zero, suc, ◌+◌, ◌*◌, ◌/◌, ◌≤◌, ◌<◌}
+use Rattle.std.specs.Simd.{first_chunks}
 use mathlib.Core.Path.{◌≡◌, refl, sym, ap, ◌∙◌}
 use mathlib.Core.Bool.{Bool, true, false, ◌&&◌, ◌||◌, not, and-false}
 use mathlib.Core.List.{List, [], ◌∷◌, ◌++◌}
 use native.Mathlib.Omega.{arith}
 use borrow.Author.Tests.{eqb-true, leb-true, lt-ltb, ne_eqb, eq-eqb}
 use lib.Dec.{eqb, leb}
-use lib.ListN.{length, get_or, take, drop, length-drop, take-append-drop}
-use lib.Seq.{drop-drop, take_all}
+use lib.ListN.{length, get_or, take, drop, take-append-drop}
+use lib.Seq.{drop-drop}
 use Rattle.rules.specs.Lists.{all_of, is_empty, same_bytes}
 use Rattle.rules.specs.Table.{xml_prefix, xmlns_prefix}
 use Rattle.rules.specs.Utf8.{well_formed, is_ascii}
@@ -121,12 +122,22 @@ module _ (name : List ℕ) where
       ap (all_of is_plain_byte) (sym (take-append-drop k (drop i name))) ∙ all_append is_plain_byte (take k (drop i name)) (drop k (drop i name))
       ∙ ap (λ (l : List ℕ). all_of is_plain_byte (take k (drop i name)) && all_of is_plain_byte l) (drop-drop k i name)
 
-  pub last-part : (i : ℕ) → all_of is_plain_byte (take (length name - i) (drop i name)) ≡ all_of is_plain_byte (drop i name)
-  last-part i = ap (all_of is_plain_byte) (take_all (length name - i) (drop i name) (rw length-drop (omega arith)))
-
   module _ (k i : ℕ) {part : Bool} (p : part ≡ all_of is_plain_byte (take k (drop i name))) where
     pub part-fails : part ≡ false → all_of is_plain_byte (drop i name) ≡ false
     part-fails e = split k i ∙ ap (λ (b : Bool). b && all_of is_plain_byte (drop (i + k) name)) (sym p ∙ e)
 
     pub part-passes : part ≡ true → all_of is_plain_byte (drop (i + k) name) ≡ all_of is_plain_byte (drop i name)
     part-passes e = sym (split k i ∙ ap (λ (b : Bool). b && all_of is_plain_byte (drop (i + k) name)) (sym p ∙ e))
+
+-- The groups of n bytes that a string begins with.
+group-at : (n k : ℕ) (l : List ℕ) (i : ℕ) → i < k → get_or (first_chunks n k l) i [] ≡ take n (drop (n * i) l)
+group-at n zero l i h = absurd (omega arith)
+group-at n (suc k) l zero h = let none : n * 0 ≡ 0 = omega arith in rw none refl
+group-at n (suc k) l (suc i) h =
+    let more : n * suc i ≡ n + n * i = omega arith in
+    rw (more, ← drop-drop (n * i) n l) (group-at n k (drop n l) i (omega arith))
+
+pub group-is :
+    (n : ℕ) (l : List ℕ) {groups : List (List ℕ)} (i : ℕ) → groups ≡ first_chunks n (length l / n) l → i < length l / n
+    → {part : Bool} → part ≡ all_of is_plain_byte (get_or groups i []) → part ≡ all_of is_plain_byte (take n (drop (n * i) l))
+group-is n l i e h p = rw (e, group-at n (length l / n) l i h) at p

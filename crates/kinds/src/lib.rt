@@ -113,26 +113,23 @@ fn is_plain(name: &[u8]) -> bool
     if !is_plain_first(name[0]) {
         return false;
     }
-    let mut i = 0;
-    while name.len() - i >= 16 {
-        if !all_plain(&name[i..i + 16]) {
+    let (many, few) = name.as_chunks::<16>();
+    for bytes in many {
+        if !all_plain(bytes) {
             return false;
         }
-        i += 16;
     }
-    few_plain(&name[i..])
+    few_plain(few)
 }
 
 // Every one of a few bytes is one of a name of ASCII.
 fn few_plain(bytes: &[u8]) -> bool
     ensures { result ≡ all_of is_plain_byte bytes.now }
 {
-    let mut i = 0;
-    while i < bytes.len() {
-        if !is_plain_small_first(bytes[i]) {
+    for byte in bytes {
+        if !is_plain_small_first(*byte) {
             return false;
         }
-        i += 1;
     }
     true
 }
@@ -152,10 +149,8 @@ fn all_plain(bytes: &[u8]) -> bool
     ensures { result ≡ all_of is_plain_byte bytes.now }
 {
     let mut all = true;
-    let mut i = 0;
-    while i < bytes.len() {
-        all = all & is_plain_byte(bytes[i]);
-        i += 1;
+    for byte in bytes {
+        all = all & is_plain_byte(*byte);
     }
     all
 }

@@ -1,6 +1,7 @@
 -- Going through the rows for the lowest one of DOM Level 1.
 -- Assumes nothing.
-use Prim.Native.Nat.{ℕ, ◌+◌, ◌≤◌, ◌<◌}
+use Rattle.std.specs.Prelude.{Err}
+use Prim.Native.Nat.{ℕ, ◌+◌, ◌<◌}
 use mathlib.Core.Path.{◌≡◌, refl, sym, ◌∙◌, ap}
 use mathlib.Core.Bool.{Bool, true, false}
 use mathlib.Core.List.{List}
@@ -9,9 +10,8 @@ use Rattle.rules.specs.Table.{TYPE, nodes, node, word, row_count, is_level1}
 use Rattle.rules.specs.Refusals.{refused_if, lowest_refusal, verdict}
 use Rattle.rules.specs.Normalization.{level1_refusal}
 use Rattle.rules.specs.declared.Refusal.{Refusal}
-use Rattle.rules.specs.declared.Checked.{Checked}
 use Rattle.rules.proofs.Table.{length-nodes}
-use Rattle.rules.proofs.Refusals.{refusal_from, from_start, from-refused, from_next, from_end}
+use Rattle.rules.proofs.Refusals.{refusal_from, from_start, from-refused, from_next}
 use Rattle.rows.proofs.Words.{type-word}
 
 module _ (table pool : List ℕ) where
@@ -31,11 +31,8 @@ module _ (table pool : List ℕ) where
     judged : is_level1 (node (nodes table pool) r).type ≡ is
     judged = ap is_level1 (type-word table pool r inside ∙ sym read) ∙ sym told
 
-    pub scan-found : is ≡ true → verdict (level1_refusal (nodes table pool)) ≡ Checked.Refused (Refusal.Level1 (record { 0 = r }))
+    pub scan-found : is ≡ true → verdict (level1_refusal (nodes table pool)) ≡ Err (Refusal.Level1 (record { 0 = r }))
     scan-found e = ap verdict (scanning ∙ from-refused row_level1 (row_count table) r inside (Refusal.Level1 (record { 0 = r })) (rw (judged ∙ e) refl))
 
     pub scan-next : is ≡ false → Scanning (r + 1)
     scan-next e = scanning ∙ from_next row_level1 (row_count table) r inside (rw (judged ∙ e) refl)
-
-  pub scan-end : (r : ℕ) → Scanning r → row_count table ≤ r → verdict (level1_refusal (nodes table pool)) ≡ Checked.Accepted
-  scan-end r scanning past = ap verdict (scanning ∙ from_end row_level1 (row_count table) r past)

@@ -1,7 +1,7 @@
 // Numbers of two and four bytes, and words, read from bytes and written to them, the lowest byte first.
 #![tactic(auto)]
 
-ghost use Rattle.std.specs.Prelude.{◌≡◌, ◌+◌, ◌*◌, ◌%◌, ◌≤◌, ◌<◌, length};
+ghost use Rattle.std.specs.Prelude.{◌≡◌, ◌+◌, ◌*◌, ◌%◌, ◌≤◌, length};
 ghost use Rattle.buffers.specs.Writes.{written};
 ghost use Rattle.little_endian.specs.Numbers.{bytes_of, number_at, word_bytes, words_from};
 
@@ -10,9 +10,7 @@ pub fn short(bytes: &[u8], at: usize) -> u32
     requires { at + 2 ≤ length bytes.now }
     ensures { result ≡ number_at bytes.now at 2 }
 {
-    let low = wide(bytes[at]);
-    let high = wide(bytes[at + 1]);
-    low + 256 * high
+    u32::from(u16::from_le_bytes([bytes[at], bytes[at + 1]]))
 }
 
 // The number in the four bytes from a place on.
@@ -20,11 +18,7 @@ pub fn word(bytes: &[u8], at: usize) -> u32
     requires { at + 4 ≤ length bytes.now }
     ensures { result ≡ number_at bytes.now at 4 }
 {
-    let first = wide(bytes[at]);
-    let second = wide(bytes[at + 1]);
-    let third = wide(bytes[at + 2]);
-    let fourth = wide(bytes[at + 3]);
-    first + 256 * second + 65536 * third + 16777216 * fourth
+    u32::from_le_bytes([bytes[at], bytes[at + 1], bytes[at + 2], bytes[at + 3]])
 }
 
 // Reads so many words into the start of a table.
@@ -33,10 +27,8 @@ pub fn read_words(bytes: &[u8], table: &mut [u32], count: usize)
     requires count_in_bounds_2 { count ≤ length table.old }
     ensures { table.new ≡ written table.old 0 (words_from count bytes.now) }
 {
-    let mut i = 0;
-    while i < count {
-        table[i] = word(bytes, 4 * i);
-        i += 1;
+    for (i, place) in table[..count].iter_mut().enumerate() {
+        *place = word(bytes, 4 * i);
     }
 }
 
@@ -45,10 +37,8 @@ pub fn write_words(out: &mut [u8], at: usize, words: &[u32])
     requires { at + 4 * length words.now ≤ length out.old }
     ensures { out.new ≡ written out.old at (word_bytes words.now) }
 {
-    let mut i = 0;
-    while i < words.len() {
-        write_word(out, at + 4 * i, words[i]);
-        i += 1;
+    for (i, word) in words.iter().enumerate() {
+        write_word(out, at + 4 * i, *word);
     }
 }
 
@@ -57,10 +47,7 @@ fn write_word(out: &mut [u8], at: usize, x: u32)
     requires { at + 4 ≤ length out.old }
     ensures { out.new ≡ written out.old at (bytes_of 4 x) }
 {
-    out[at] = byte(x);
-    out[at + 1] = byte(x / 256);
-    out[at + 2] = byte(x / 65536);
-    out[at + 3] = byte(x / 16777216);
+    out[at..at + 4].copy_from_slice(&x.to_le_bytes());
 }
 
 // The lowest byte of a number.
@@ -68,11 +55,4 @@ pub fn byte(x: u32) -> u8
     ensures { result ≡ x % 256 }
 {
     (x % 256) as u8
-}
-
-// A byte as a number.
-fn wide(x: u8) -> u32
-    ensures { (result ≡ x) × (result < 256) }
-{
-    x as u32
 }

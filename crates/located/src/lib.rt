@@ -4,17 +4,17 @@
 ghost use Rattle.std.specs.Prelude.{◌≡◌};
 ghost use Rattle.rules.specs.Lookups.{without_built_ins};
 
-use rules::{Bound, Located};
+use rules::{Bound, Place, Refusal};
 
 // The answer of a lookup that finds no built-in.
-pub fn without_built_ins(found: Bound) -> Located
+pub fn without_built_ins(found: Result<Option<Bound>, Refusal>) -> Result<Option<Place>, Refusal>
     ensures { result ≡ without_built_ins found }
 {
     match found {
-        Bound::At(place) => Located::At(place),
-        Bound::Xml => Located::Nothing,
-        Bound::Xmlns => Located::Nothing,
-        Bound::Nothing => Located::Nothing,
-        Bound::Refused(x) => Located::Refused(x),
+        Ok(Some(Bound::At(place))) => Ok(Some(place)),
+        Ok(Some(Bound::Xml)) => Ok(None),
+        Ok(Some(Bound::Xmlns)) => Ok(None),
+        Ok(None) => Ok(None),
+        Err(x) => Err(x),
     }
 }

@@ -1,5 +1,6 @@
 -- A found place lies in the pool, so the part that is handed back stands at it.
 -- Assumes nothing.
+use Rattle.std.specs.Prelude.{Some, None, Ok, Err}
 use Prim.Native.Nat.{ℕ, ◌+◌, ◌≤◌, min}
 use native.Mathlib.Omega.{arith}
 use mathlib.Core.Bool.{Bool, true, false}
@@ -14,10 +15,9 @@ use Rattle.rules.specs.Lists.{is_empty, same_bytes}
 use Rattle.rules.specs.Table.{xml_prefix, xmlns_prefix, Field, Node, nodes, node, row_count}
 use Rattle.rules.specs.Refusals.{refused_if, unless_refused, check_refusal}
 use Rattle.rules.specs.Lookups.{Binding, declared, built_in_xml, built_in_xmlns, unbound, or_unbound, uri_of_prefix, prefix_of_uri, bound, without_built_ins, lookup_elements, findings, lookup_refusal, lookup_at, uri_of_prefix_at, prefix_of_uri_at}
-use Rattle.rules.specs.Answers.{bound_place, located_place}
+use Rattle.rules.specs.Answers.{bound_place, located_place, Lookup}
 use Rattle.rules.specs.declared.Refusal.{Refusal}
 use Rattle.rules.specs.declared.Question.{Question}
-use Rattle.rules.specs.declared.Bound.{Bound}
 use Rattle.rules.proofs.Lists.{by_cases}
 use Rattle.rules.proofs.Table.{no_row}
 use Rattle.rules.proofs.Refusals.{all_none}
@@ -26,6 +26,7 @@ use Rattle.pool.specs.Parts.{StandsAt}
 use Rattle.deciders.specs.Deciding.{Ordinary}
 use Rattle.outward.proofs.Left.{uri_lookup, prefix_lookup}
 use Rattle.outward.proofs.Every.{answers-good}
+use Rattle.rules.specs.declared.Bound.{Bound}
 
 -- The field, if one is found, starts in the pool, or at its end.
 abbrev binding_starts : ℕ → Binding → Bool
@@ -37,7 +38,7 @@ binding_starts size unbound = true
 field-starts : (size : ℕ) (f : Field) → FieldAccepted size f → leb f.offset size ≡ true
 field-starts size f is = le-leb f.offset size (omega (arith, is.in_pool))
 
-bound-starts : (size : ℕ) (b : Binding) → binding_starts size b ≡ true → (bound_place (bound b)).offset.0 ≤ size
+bound-starts : (size : ℕ) (b : Binding) → binding_starts size b ≡ true → (bound_place (Ok (bound b))).offset.0 ≤ size
 unfolding bound_place
 bound-starts size (declared f) is = leb-true f.offset size is
 bound-starts size built_in_xml is = omega arith
@@ -98,17 +99,17 @@ module _ (table pool : List ℕ) (is : Accepted table pool) where
 
 -- Of a lookup that is not refused the table is accepted; a refusal has the place of nothing.
 module _ (table pool : List ℕ) (r : ℕ) where
-  refused-starts : (x : Refusal) → (bound_place (Bound.Refused x)).offset.0 ≤ length pool
+  refused-starts : (x : Refusal) → (bound_place (Err x)).offset.0 ≤ length pool
   unfolding bound_place
   refused-starts x = omega arith
 
-  plain-place : (found : Bound) → located_place (without_built_ins found) ≡ bound_place found
+  plain-place : (found : Lookup) → located_place (without_built_ins found) ≡ bound_place found
   unfolding without_built_ins located_place bound_place
-  plain-place (Bound.At p) = refl
-  plain-place Bound.Xml = refl
-  plain-place Bound.Xmlns = refl
-  plain-place Bound.Nothing = refl
-  plain-place (Bound.Refused x) = refl
+  plain-place (Ok (Some (Bound.At p))) = refl
+  plain-place (Ok (Some Bound.Xml)) = refl
+  plain-place (Ok (Some Bound.Xmlns)) = refl
+  plain-place (Ok None) = refl
+  plain-place (Err x) = refl
 
   table-accepted : lookup_refusal table pool r ≡ none → Accepted table pool
   unfolding lookup_refusal
@@ -125,7 +126,7 @@ module _ (table pool : List ℕ) (r : ℕ) where
       found : Binding
       found = findings question (nodes table pool) query (lookup_elements (nodes table pool) r)
 
-      go : (o : Option Refusal) → lookup_refusal table pool r ≡ o → (bound_place (unless_refused o Bound.Refused (bound found))).offset.0 ≤ length pool
+      go : (o : Option Refusal) → lookup_refusal table pool r ≡ o → (bound_place (unless_refused o Err (Ok (bound found)))).offset.0 ≤ length pool
       go none is = bound-starts (length pool) found (starts (table-accepted is))
       go (some x) is = refused-starts x
 

@@ -6,17 +6,27 @@ ghost use Rattle.std.specs.Prelude.{◌≡◌, ◌+◌};
 ghost use Rattle.rules.specs.Lookups.{uri_of_prefix_at, prefix_of_uri_at, default_uri_at, in_scope_uri_at, in_scope_prefix_at, bound_part, located_part};
 ghost use Rattle.rules.specs.Answers.{bound_place, located_place};
 
-use rules::{Bound, Located, Question, Row};
+use rules::{Bound, Place, Question, Refusal, Row};
 
 // The URI of a prefix at a row; the empty prefix is the default.
-pub fn uri_of_prefix(table: &[u32], pool: &[u8], row: Row, prefix: &[u8]) -> Bound
+pub fn uri_of_prefix(
+    table: &[u32],
+    pool: &[u8],
+    row: Row,
+    prefix: &[u8],
+) -> Result<Option<Bound>, Refusal>
     ensures { result ≡ uri_of_prefix_at table.now pool.now row.0 prefix.now }
 {
     resolver::lookup(table, pool, row, Question::UriOfPrefix, prefix)
 }
 
 // A prefix of a URI at a row.
-pub fn prefix_of_uri(table: &[u32], pool: &[u8], row: Row, uri: &[u8]) -> Located
+pub fn prefix_of_uri(
+    table: &[u32],
+    pool: &[u8],
+    row: Row,
+    uri: &[u8],
+) -> Result<Option<Place>, Refusal>
     ensures { result ≡ prefix_of_uri_at table.now pool.now row.0 uri.now }
 {
     located::without_built_ins(resolver::lookup(table, pool, row, Question::PrefixOfUri, uri))
@@ -24,21 +34,31 @@ pub fn prefix_of_uri(table: &[u32], pool: &[u8], row: Row, uri: &[u8]) -> Locate
 
 // The default URI at a row: that of the empty prefix. Whoever asks whether a URI is the default compares; nothing equals the
 // empty URI.
-pub fn default_uri(table: &[u32], pool: &[u8], row: Row) -> Located
+pub fn default_uri(table: &[u32], pool: &[u8], row: Row) -> Result<Option<Place>, Refusal>
     ensures { result ≡ default_uri_at table.now pool.now row.0 }
 {
     located::without_built_ins(resolver::lookup(table, pool, row, Question::UriOfPrefix, b""))
 }
 
 // The in-scope URI of a prefix at a row: by declarations alone.
-pub fn in_scope_uri(table: &[u32], pool: &[u8], row: Row, prefix: &[u8]) -> Bound
+pub fn in_scope_uri(
+    table: &[u32],
+    pool: &[u8],
+    row: Row,
+    prefix: &[u8],
+) -> Result<Option<Bound>, Refusal>
     ensures { result ≡ in_scope_uri_at table.now pool.now row.0 prefix.now }
 {
     resolver::lookup(table, pool, row, Question::InScopeUri, prefix)
 }
 
 // An in-scope prefix of a URI at a row: by declarations alone.
-pub fn in_scope_prefix(table: &[u32], pool: &[u8], row: Row, uri: &[u8]) -> Bound
+pub fn in_scope_prefix(
+    table: &[u32],
+    pool: &[u8],
+    row: Row,
+    uri: &[u8],
+) -> Result<Option<Bound>, Refusal>
     ensures { result ≡ in_scope_prefix_at table.now pool.now row.0 uri.now }
 {
     resolver::lookup(table, pool, row, Question::InScopePrefix, uri)

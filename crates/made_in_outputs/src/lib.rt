@@ -9,7 +9,7 @@ ghost use Rattle.input.specs.Lent.{Enough, Prepared};
 ghost use Rattle.normal_form.specs.Lent.{Topped};
 
 use repair::Sizes;
-use rules::Filled;
+use rules::{Filled, Refusal};
 
 // Normalizes an input that draws none of the refusals of an input.
 pub fn normalize_accepted(
@@ -21,7 +21,7 @@ pub fn normalize_accepted(
     path: &mut [u16],
     tops: &mut [u16],
     names: u16,
-) -> Filled
+) -> Result<Filled, Refusal>
     requires enough { Enough (row_count table.now) notes.old path.old }
     requires topped { Topped (row_count table.now) tops.old }
     requires prepared { Prepared table.now pool.now notes.old path.old names }

@@ -9,7 +9,7 @@ ghost use Rattle.normal_form.specs.Result.{RoomFor, Made};
 ghost use Rattle.normal_form.specs.Lent.{Topped};
 
 use repair::Sizes;
-use rules::{Checked, Filled};
+use rules::{Filled, Refusal};
 
 // Normalizes an input in place that draws none of the refusals of an input.
 pub fn normalize_accepted(
@@ -21,7 +21,7 @@ pub fn normalize_accepted(
     rows: usize,
     bytes: usize,
     names: u16,
-) -> Filled
+) -> Result<Filled, Refusal>
     requires room_for { RoomFor words.old work.old rows bytes }
     requires enough { Enough rows notes.old path.old }
     requires topped { Topped rows tops.old }
@@ -36,11 +36,9 @@ pub fn normalize_accepted(
         limit: rules::MOST_ROWS,
     };
     let made = normal_form::make_result(words, work, notes, path, tops, sizes);
-    match outputs::room(made.rows, made.bytes, rules::MOST_ROWS, rules::MOST_BYTES) {
-        Checked::Accepted => Filled::Done {
-            rows: made.rows,
-            bytes: made.bytes,
-        },
-        Checked::Refused(why) => Filled::Refused(why),
-    }
+    outputs::room(made.rows, made.bytes, rules::MOST_ROWS, rules::MOST_BYTES)?;
+    Ok(Filled {
+        rows: made.rows,
+        bytes: made.bytes,
+    })
 }

@@ -22,9 +22,7 @@ pub fn make(marks: &mut [u16], pool: &[u8])
 {
     let mut start = pool.len();
     let mut end = pool.len();
-    let mut k = BLOCKS;
-    while k > 0 {
-        k -= 1;
+    for k in (0..BLOCKS).rev() {
         let first = first_start(pool, BLOCK * k, start);
         end = reach_from(pool, first, start, end);
         start = first;
@@ -84,15 +82,13 @@ fn first_start(pool: &[u8], from: usize, limit: usize) -> usize
     requires { limit ≤ length pool.now }
     ensures { Start pool.now limit result }
 {
-    let mut i = from;
-    while i < limit {
+    for i in from..limit {
         if !is_tail(pool[i]) {
             return i;
         }
         if i - from == 3 {
             return limit;
         }
-        i += 1;
     }
     limit
 }

@@ -13,26 +13,25 @@ ghost use Rattle.markup.specs.Writing.{in_subtree, lowest_row, has_no_markup};
 ghost use Rattle.subtree.specs.Flags.{Flagged};
 ghost use Rattle.markup_refusals.specs.Tests.{is_foreign, is_spoiled};
 
-use rules::{Checked, Refusal, Row};
+use rules::{Refusal, Row};
 
 // Refusal 20, for the lowest row of the subtree that has no markup.
-pub fn check_markup(table: &[u32], flags: &[u16]) -> Checked
+pub fn check_markup(table: &[u32], flags: &[u16]) -> Result<(), Refusal>
     requires { (row_count table.now ≤ MOST_ROWS) × (row_count table.now ≤ length flags.now) }
     ensures { (e : ℕ) (pool : List ℕ) → Flagged table.now flags.now e (row_count table.now) → result ≡ verdict (lowest_row (nodes table.now pool) (λ (q : ℕ). in_subtree (nodes table.now pool) e q && has_no_markup (nodes table.now pool) q) Refusal.NotMarkup) }
 {
-    let mut r: u32 = 0;
-    while rows::has_row(table, Row(r)) {
+    let rows = rows::row_count(table) as u32;
+    for r in 0..rows {
         if is_foreign(table, flags, Row(r)) {
-            return Checked::Refused(Refusal::NotMarkup(Row(r)));
+            return Err(Refusal::NotMarkup(Row(r)));
         }
-        r += 1;
     }
-    Checked::Accepted
+    Ok(())
 }
 
 // Refusal 21, for the lowest row of the subtree whose value holds a forbidden character. The values are
 // parts of the pool: where it holds none, no value does.
-pub fn check_characters(table: &[u32], pool: &[u8], flags: &[u16]) -> Checked
+pub fn check_characters(table: &[u32], pool: &[u8], flags: &[u16]) -> Result<(), Refusal>
     requires pool_value { check_refusal table.now pool.now ≡ none }
     requires table_in_bounds { row_count table.now ≤ length flags.now }
     ensures { (e : ℕ) → Flagged table.now flags.now e (row_count table.now) → result ≡ verdict (lowest_row (nodes table.now pool.now) (λ (q : ℕ). in_subtree (nodes table.now pool.now) e q && holds_forbidden (node (nodes table.now pool.now) q).value.bytes) Refusal.Character) }
@@ -42,24 +41,23 @@ pub fn check_characters(table: &[u32], pool: &[u8], flags: &[u16]) -> Checked
         clean_parts::make(&mut reaches, pool);
         return check_values(table, pool, flags, &reaches);
     }
-    Checked::Accepted
+    Ok(())
 }
 
 // The same, value by value, where it is known of each block of the pool how far it holds none.
-fn check_values(table: &[u32], pool: &[u8], flags: &[u16], reaches: &[u16]) -> Checked
+fn check_values(table: &[u32], pool: &[u8], flags: &[u16], reaches: &[u16]) -> Result<(), Refusal>
     requires pool_value { check_refusal table.now pool.now ≡ none }
     requires in_bounds { (WORDS ≤ length reaches.now) × Reached pool.now reaches.now }
     requires table_in_bounds { row_count table.now ≤ length flags.now }
     ensures { (e : ℕ) → Flagged table.now flags.now e (row_count table.now) → result ≡ verdict (lowest_row (nodes table.now pool.now) (λ (q : ℕ). in_subtree (nodes table.now pool.now) e q && holds_forbidden (node (nodes table.now pool.now) q).value.bytes) Refusal.Character) }
 {
-    let mut r: u32 = 0;
-    while rows::has_row(table, Row(r)) {
+    let rows = rows::row_count(table) as u32;
+    for r in 0..rows {
         if is_spoiled(table, pool, flags, reaches, Row(r)) {
-            return Checked::Refused(Refusal::Character(Row(r)));
+            return Err(Refusal::Character(Row(r)));
         }
-        r += 1;
     }
-    Checked::Accepted
+    Ok(())
 }
 
 // The row is in the subtree, and of a type without markup.

@@ -1,5 +1,6 @@
 -- What the numbers of names say where the arrays stand is what the definitions say.
 -- Assumes nothing.
+use Rattle.std.specs.Prelude.{Result, Err, ⊤}
 use Prim.Native.Nat.{ℕ, ◌+◌, ◌-◌, ◌<◌}
 use mathlib.Core.Path.{◌≡◌, refl, sym, ◌∙◌, ap, subst}
 use mathlib.Core.Bool.{Bool, true, false, ◌&&◌, not}
@@ -14,7 +15,6 @@ use Rattle.rules.specs.Refusals.{refused_if, first_refusal, verdict}
 use Rattle.rules.specs.Lookups.{elements_from, declares, scope_of, scope_at}
 use Rattle.rules.specs.Demands.{is_bound}
 use Rattle.rules.specs.declared.Refusal.{Refusal}
-use Rattle.rules.specs.declared.Checked.{Checked}
 use Rattle.rules.proofs.Lists.{by_cases, true-not-false}
 use Rattle.rules.proofs.Table.{length-nodes}
 use Rattle.rules.proofs.Unique.{accepted-unique}
@@ -108,8 +108,8 @@ module _ {table pool notes tops path : List ℕ} (w : Walkable table pool notes 
 
 -- Two refusals, one after the other: the first is that of a row, if it is one.
 module _ (a b : Option Refusal) (within : Bool) (x : Refusal) (told : a ≡ refused_if within x) where
-  pub second-told : within ≡ false → {i : Checked} → i ≡ verdict b → i ≡ verdict (first_refusal (a ∷ b ∷ []))
+  pub second-told : within ≡ false → {i : Result ⊤ Refusal} → i ≡ verdict b → i ≡ verdict (first_refusal (a ∷ b ∷ []))
   second-told is other = rw (told, is) (other ∙ ap verdict (first_alone b))
 
-  pub first-told : within ≡ true → Checked.Refused x ≡ verdict (first_refusal (a ∷ b ∷ []))
+  pub first-told : within ≡ true → Err x ≡ verdict (first_refusal (a ∷ b ∷ []))
   first-told is = rw (told, is) refl

@@ -114,8 +114,6 @@ module _ {table pool notes tops path : List ℕ} (w : Walkable table pool notes 
 
 -- The pass has come to row r.
 pub record Passing (table notes tops₀ path₀ tops path : List ℕ) (position r : ℕ) : Type 0 where
-  pub tops_length : length tops ≡ length tops₀
-  pub path_length : length path ≡ length path₀
   pub xml : under_at path NUMBERED 0 ≡ under_at path₀ NUMBERED 0
   pub standing : Standing table notes tops path position
   pub low : position ≤ row_count table

@@ -17,7 +17,7 @@ ghost use Rattle.unsettled.specs.Walkable.{Walkable};
 ghost use Rattle.meanings.specs.Names.{undeclared};
 ghost use Rattle.meanings.specs.Writable.{WritableTo};
 
-use rules::{Checked, Position, Refusal, Row};
+use rules::{Position, Refusal, Row};
 
 // The first row that is neither a document nor of a type that is written, or whose name does not mean its URI in scope there;
 // NONE where there is none. The arrays stand at no row, before and after. Where a row declares nothing,
@@ -31,14 +31,13 @@ pub fn first_unwritable(table: &[u32], notes: &[u16], tops: &mut [u16], path: &m
     ensures path_unchanged { under_at path.new NUMBERED 0 ≡ under_at path.old NUMBERED 0 }
 {
     let mut position: u16 = 0;
-    let mut r: u32 = 0;
-    while rows::has_row(table, Row(r)) {
+    let rows = rows::row_count(table) as u32;
+    for r in 0..rows {
         position = approach(table, notes, tops, path, Row(r), Position(position)).0;
         if !row_meanings::is_writable(table, notes, tops, path, Row(r)) {
             moves::go(table, notes, tops, path, Position(position), Position(0));
             return Row(r);
         }
-        r += 1;
     }
     moves::go(table, notes, tops, path, Position(position), Position(0));
     Row(rules::NONE)
@@ -85,7 +84,7 @@ pub fn check_names(
     flags: &[u16],
     element: Row,
     first: Row,
-) -> Checked
+) -> Result<(), Refusal>
     requires by_index { (pool : List ℕ) × Walkable table.now pool notes.now tops.old path.old }
     requires standing { Standing table.now notes.now tops.old path.old 0 }
     requires element_bound { (element.0 < row_count table.now) × (row_count table.now ≤ length flags.now) }
@@ -96,25 +95,24 @@ pub fn check_names(
     let inherited = check_inherited(table, notes, tops, element);
     let row = unsettled::lowest_from(table, notes, tops, path, flags, position, first);
     if rows::has_row(table, row) {
-        return Checked::Refused(Refusal::Undeclared(row));
+        return Err(Refusal::Undeclared(row));
     }
     inherited
 }
 
 // Refusal 24, for the lowest declaration of an ancestor that an element inherits. The arrays stand at
 // the element.
-fn check_inherited(table: &[u32], notes: &[u16], tops: &[u16], element: Row) -> Checked
+fn check_inherited(table: &[u32], notes: &[u16], tops: &[u16], element: Row) -> Result<(), Refusal>
     requires table_bound { (row_count table.now ≤ MOST_ROWS) × (NOTES * row_count table.now ≤ length notes.now) }
     requires by_index { (r : ℕ) → r < row_count table.now → TOPS * note_at notes.now r LOCAL_NAME + TOPS ≤ length tops.now }
     ensures { (pool path : List ℕ) → Walkable table.now pool notes.now tops.now path → Standing table.now notes.now tops.now path (element.0 + 1) → element.0 < row_count table.now → is_element (node (nodes table.now pool) element.0).type ≡ true → result ≡ verdict (lowest_row (nodes table.now pool) (is_inherited (nodes table.now pool) element.0) Refusal.Inherited) }
 {
     let e = element.0;
-    let mut r: u32 = 0;
-    while rows::has_row(table, Row(r)) {
+    let rows = rows::row_count(table) as u32;
+    for r in 0..rows {
         if inheritance::is_open(table, notes, tops, Row(r), Row(e)) {
-            return Checked::Refused(Refusal::Inherited(Row(r)));
+            return Err(Refusal::Inherited(Row(r)));
         }
-        r += 1;
     }
-    Checked::Accepted
+    Ok(())
 }

@@ -1,18 +1,23 @@
 // Refusal 14: a field that is not well-formed UTF-8.
-ghost use Rattle.std.specs.Prelude.{◌≡◌, ◌<◌};
+ghost use Rattle.std.specs.Prelude.{◌≡◌, ◌<◌, Err};
 ghost use Rattle.rules.specs.Table.{VALUE, row_count, field_at, node_at};
 ghost use Rattle.rules.specs.Utf8.{well_formed};
 ghost use Rattle.rules.specs.Refusals.{verdict, encodings_refusal};
 ghost use Rattle.rules.specs.declared.Refusal.{Refusal};
-ghost use Rattle.rules.specs.declared.Checked.{Checked};
 ghost use Rattle.row_names.specs.RowNames.{kinds_of};
 
 use kinds::MALFORMED;
 use row_names::Kinds;
-use rules::{Checked, Refusal, Row};
+use rules::{Refusal, Row};
 
 // The first refusal that a field of the row draws.
-pub fn check(table: &[u32], pool: &[u8], formed: bool, kinds: Kinds, row: Row) -> Checked
+pub fn check(
+    table: &[u32],
+    pool: &[u8],
+    formed: bool,
+    kinds: Kinds,
+    row: Row,
+) -> Result<(), Refusal>
     requires row_bound { row.0 < row_count table.now }
     requires formed_value { formed ≡ well_formed (field_at table.now pool.now row.0 VALUE).bytes }
     requires kinds_value { kinds ≡ kinds_of (node_at table.now pool.now row.0) }
@@ -30,11 +35,11 @@ pub fn check(table: &[u32], pool: &[u8], formed: bool, kinds: Kinds, row: Row) -
     if !formed {
         return malformed(row, rules::VALUE);
     }
-    Checked::Accepted
+    Ok(())
 }
 
-pub fn malformed(row: Row, word: u32) -> Checked
-    ensures { result ≡ Checked.Refused (Refusal.MalformedUtf8 row word) }
+pub fn malformed(row: Row, word: u32) -> Result<(), Refusal>
+    ensures { result ≡ Err (Refusal.MalformedUtf8 row word) }
 {
-    Checked::Refused(Refusal::MalformedUtf8 { row, word })
+    Err(Refusal::MalformedUtf8 { row, word })
 }

@@ -10,35 +10,34 @@ const MANY: usize = 1024;
 const SOME: usize = 32;
 
 // The two byte strings are equal: their lengths first, and then from the end, where most that share a length differ. The
-// last byte, many at once while there are so many, then some at once, and what is left.
+// last byte; many at once while there are so many, then some at once, if there are so many, and what is left.
 pub fn same(a: &[u8], b: &[u8]) -> bool
     ensures { result ≡ same_bytes a.now b.now }
 {
-    let mut i = a.len();
-    if b.len() != i {
+    if a.len() != b.len() {
         return false;
     }
-    if i == 0 {
-        return true;
-    }
-    if a[i - 1] != b[i - 1] {
+    if a.last() != b.last() {
         return false;
     }
-    while i >= MANY {
-        let end = i;
-        i -= MANY;
-        if !same_all(&a[i..end], &b[i..end]) {
+    if a.len() < SOME {
+        return short_strings::same_short(a, b);
+    }
+    let (a_front, a_many) = a.as_rchunks::<MANY>();
+    let (b_front, b_many) = b.as_rchunks::<MANY>();
+    for (a_group, b_group) in a_many.iter().rev().zip(b_many.iter().rev()) {
+        if !same_all(a_group, b_group) {
             return false;
         }
     }
-    while i >= SOME {
-        let end = i;
-        i -= SOME;
-        if !same_all(&a[i..end], &b[i..end]) {
+    let (a_rest, a_some) = a_front.as_rchunks::<SOME>();
+    let (b_rest, b_some) = b_front.as_rchunks::<SOME>();
+    for (a_part, b_part) in a_some.iter().rev().zip(b_some.iter().rev()) {
+        if !same_all(a_part, b_part) {
             return false;
         }
     }
-    short_strings::same_short(&a[..i], &b[..i])
+    short_strings::same_short(a_rest, b_rest)
 }
 
 // Two byte strings of one length are equal. No byte ends the loop, so that the compiler can take many at once.
@@ -47,10 +46,8 @@ fn same_all(a: &[u8], b: &[u8]) -> bool
     ensures { result ≡ same_bytes a.now b.now }
 {
     let mut all = true;
-    let mut i = 0;
-    while i < a.len() {
-        all = all & (a[i] == b[i]);
-        i += 1;
+    for (one, other) in a.iter().zip(b) {
+        all = all & (*one == *other);
     }
     all
 }

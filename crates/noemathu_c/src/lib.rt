@@ -2,7 +2,8 @@
 #![tactic(auto)]
 
 ghost use Rattle.std.specs.Prelude.{◌≡◌, length};
-ghost use Rattle.answers.specs.Given.{check_given, located_given, bound_given};
+ghost use Rattle.refusal_numbers.specs.Given.{check_given};
+ghost use Rattle.answers.specs.Given.{located_given, bound_given};
 ghost use Rattle.output_answers.specs.Given.{filled_given, written_given};
 ghost use Rattle.bundles.specs.Operations.{bundle_read, table_written, bundle_checked, bundle_uri_of_prefix, bundle_prefix_of_uri, bundle_default_uri, bundle_in_scope_uri, bundle_in_scope_prefix, bundle_normalized};
 ghost use Rattle.packing.specs.Packing.{bundle_packed};

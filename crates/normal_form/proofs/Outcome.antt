@@ -1,5 +1,6 @@
 -- The outcome of a finished normalization is the one that the rules tell.
 -- Assumes nothing.
+use Rattle.std.specs.Prelude.{Result, Ok, Err, ⊤}
 use Prim.Native.Nat.{ℕ, ◌*◌, ◌≤◌}
 use mathlib.Core.Path.{◌≡◌, refl, sym, ◌∙◌, ap}
 use mathlib.Core.Logic.{inl}
@@ -14,11 +15,10 @@ use lib.Dec.{ltb}
 use borrow.Author.Tests.{ltb-true, ltb-false}
 use Rattle.rules.specs.Table.{WIDTH, MOST_ROWS, MOST_BYTES, nodes}
 use Rattle.rules.specs.Refusals.{verdict, first_refusal, check_refusal}
+use Rattle.rules.specs.Answers.{filled_rows, filled_bytes}
 use Rattle.rules.specs.Outputs.{Outcome, refusal}
 use Rattle.rules.specs.Normalization.{State, level1_refusal, room_refusal, normal_form, normalization_refusal, success, too_many_rows, too_many_bytes, normalized}
 use Rattle.rules.specs.declared.Refusal.{Refusal}
-use Rattle.rules.specs.declared.Checked.{Checked}
-use Rattle.rules.specs.declared.Filled.{Filled}
 use Rattle.rules.proofs.Lists.{by_cases}
 use Rattle.rules.proofs.Table.{length-words}
 use Rattle.rules.proofs.Bounds.{Limit, too-many-rows, not-too-many-rows, rows-refused, bytes-refused, normalized-success}
@@ -28,6 +28,7 @@ use Rattle.outputs.proofs.Ended.{Answers, enough-rows, ended-no-row-room, ended-
 use Rattle.input.specs.Input.{input_refusal}
 use Rattle.input.proofs.Input.{unchecked, unleveled}
 use Rattle.normal_form.specs.Result.{Holds, Made}
+use Rattle.rules.specs.declared.Filled.{Filled}
 
 answer-of : {a b : Outcome} → a ≡ b → a.answer ≡ b.answer
 answer-of e = ap (λ (o : Outcome). o.answer) e
@@ -94,7 +95,7 @@ module _ (table pool : List ℕ) (input : input_refusal table pool ≡ none) (ta
       ended-no-byte-room limit out pool_size work rows bytes fits over ∙ ap (λ (n : ℕ). refusal n pool_size Refusal.PoolRoom) size ∙ sym (no-byte-room fits over))
       (λ over. ended-completed limit out pool_size work rows bytes fits over ∙ same-result (ltb-false limit rows fits) size ∙ sym (fits_both fits over)))
 
-  pub outcome-ended : length out ≡ table_size → {answer : Filled} {out_table out_pool : List ℕ} → Answers (ended limit out pool_size work rows bytes) answer out_table out_pool → Answers (normalized table pool table_size pool_size) answer out_table out_pool
+  pub outcome-ended : length out ≡ table_size → {answer : Result Filled Refusal} {out_table out_pool : List ℕ} → Answers (ended limit out pool_size work rows bytes) answer out_table out_pool → Answers (normalized table pool table_size pool_size) answer out_table out_pool
   outcome-ended size given = rw (sym (same_outcome size)) given
 
   -- The answer alone, whatever the length of the table.
@@ -114,14 +115,14 @@ module _ (table pool : List ℕ) (input : input_refusal table pool ≡ none) (ta
       ∙ same-done (ltb-false limit rows fits)
       ∙ sym (answer-of (fits_both fits over))))
 
-  room-done : verdict (room_lack limit pool_size rows bytes) ≡ Checked.Accepted → (Filled.Done rows bytes ≡ (normalized table pool table_size pool_size).answer) × Holds out work rows bytes made
+  room-done : verdict (room_lack limit pool_size rows bytes) ≡ Ok tt → (Ok (record { rows = rows; bytes = bytes }) ≡ (normalized table pool table_size pool_size).answer) × Holds out work rows bytes made
   room-done e =
       let fits = enough-rows limit pool_size rows bytes e in (
         answer-done limit out pool_size work rows bytes e ∙ same_answer,
         record { table_room = finished.table_room fits; pool_room = finished.pool_room fits; words = finished.words fits; held = finished.held fits },
       )
 
-  room-refused : (x : Refusal) → verdict (room_lack limit pool_size rows bytes) ≡ Checked.Refused x → Filled.Refused x ≡ (normalized table pool table_size pool_size).answer
+  room-refused : (x : Refusal) → verdict (room_lack limit pool_size rows bytes) ≡ Err x → Err x ≡ (normalized table pool table_size pool_size).answer
   room-refused x e = answer-refused limit out pool_size work rows bytes x e ∙ same_answer
 
 -- What the input draws, its normalization does.
@@ -136,11 +137,11 @@ module _ (table pool : List ℕ) (table_size pool_size : ℕ) (x : Refusal) (e :
   same-refusal =
       first_two (check_refusal table pool) (level1_refusal (nodes table pool)) (room_refusal table_size pool_size (normal_form (nodes table pool) pool)) x e
 
-  refused-answer : Filled.Refused x ≡ (normalized table pool table_size pool_size).answer
+  refused-answer : Err x ≡ (normalized table pool table_size pool_size).answer
   unfolding normalized refusal
   refused-answer = rw same-refusal refl
 
-  pub input-refused : {answer : Filled} {out_table out_pool : List ℕ} → Answers (refusal table_size pool_size x) answer out_table out_pool → Answers (normalized table pool table_size pool_size) answer out_table out_pool
+  pub input-refused : {answer : Result Filled Refusal} {out_table out_pool : List ℕ} → Answers (refusal table_size pool_size x) answer out_table out_pool → Answers (normalized table pool table_size pool_size) answer out_table out_pool
   unfolding normalized
   input-refused given = rw same-refusal given
 
@@ -150,28 +151,29 @@ limit-most = (le_refl MOST_ROWS, le_refl MOST_ROWS, inl refl)
 
 -- What a normalization in place answers and leaves.
 module _ {out work table pool : List ℕ} where
-  made-done : (rows bytes : ℕ) → Filled.Done rows bytes ≡ (normalized table pool (WIDTH * MOST_ROWS) MOST_BYTES).answer → Holds out work rows bytes (normal_form (nodes table pool) pool) → Made (Filled.Done rows bytes) out work table pool
+  made-done : (rows bytes : ℕ) → Ok (record { rows = rows; bytes = bytes }) ≡ (normalized table pool (WIDTH * MOST_ROWS) MOST_BYTES).answer → Holds out work rows bytes (normal_form (nodes table pool) pool) → Made (Ok (record { rows = rows; bytes = bytes })) out work table pool
+  unfolding filled_rows filled_bytes
   made-done rows bytes told has =
       record {
         told = told;
         holds = λ n k e.
-            let same_rows : rows ≡ n = cc in
-            let same_bytes : bytes ≡ k = cc in
+            let same_rows : rows ≡ n = ap filled_rows e in
+            let same_bytes : bytes ≡ k = ap filled_bytes e in
             rw (sym same_rows, sym same_bytes) has;
       }
 
-  made-refused : (x : Refusal) → Filled.Refused x ≡ (normalized table pool (WIDTH * MOST_ROWS) MOST_BYTES).answer → Made (Filled.Refused x) out work table pool
+  made-refused : (x : Refusal) → Err x ≡ (normalized table pool (WIDTH * MOST_ROWS) MOST_BYTES).answer → Made (Err x) out work table pool
   made-refused x told = record { told = told; holds = λ n k e. let bad : true ≡ false = cc in absurd (true≢false bad) }
 
-  pub input-made : (x : Refusal) → input_refusal table pool ≡ some x → Made (Filled.Refused x) out work table pool
+  pub input-made : (x : Refusal) → input_refusal table pool ≡ some x → Made (Err x) out work table pool
   input-made x e = made-refused x (refused-answer table pool (WIDTH * MOST_ROWS) MOST_BYTES x e)
 
   module _ (input : input_refusal table pool ≡ none) {rows bytes : ℕ} (finished : Finished out work MOST_ROWS rows bytes (normal_form (nodes table pool) pool))
-      {judged : Checked} (room : judged ≡ verdict (room_lack MOST_ROWS MOST_BYTES rows bytes)) where
-    pub result-made : judged ≡ Checked.Accepted → Made (Filled.Done rows bytes) out work table pool
+      {judged : Result ⊤ Refusal} (room : judged ≡ verdict (room_lack MOST_ROWS MOST_BYTES rows bytes)) where
+    pub result-made : judged ≡ Ok tt → Made (Ok (record { rows = rows; bytes = bytes })) out work table pool
     result-made e =
         let is = room-done table pool input (WIDTH * MOST_ROWS) limit-most MOST_BYTES finished (sym room ∙ e) in
         made-done rows bytes is.0 is.1
 
-    pub result-refused : (x : Refusal) → judged ≡ Checked.Refused x → Made (Filled.Refused x) out work table pool
+    pub result-refused : (x : Refusal) → judged ≡ Err x → Made (Err x) out work table pool
     result-refused x e = made-refused x (room-refused table pool input (WIDTH * MOST_ROWS) limit-most MOST_BYTES finished x (sym room ∙ e))

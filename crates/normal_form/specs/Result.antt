@@ -1,7 +1,8 @@
 -- The result of a normalization in place.
-use Rattle.std.specs.Prelude.{ℕ, ◌+◌, ◌*◌, ◌≤◌, ◌<◌, min, List, ◌≡◌, length, take}
+use Rattle.std.specs.Prelude.{ℕ, ◌+◌, ◌*◌, ◌≤◌, ◌<◌, min, List, ◌≡◌, length, take, Result, Ok}
 use Rattle.rules.specs.Table.{WIDTH, MOST_ROWS, MOST_BYTES, nodes, words}
 use Rattle.rules.specs.Normalization.{State, normal_form, normalized}
+use Rattle.rules.specs.declared.Refusal.{Refusal}
 use Rattle.rules.specs.declared.Filled.{Filled}
 
 -- The normal form of the first rows of a table over the first bytes of a pool.
@@ -24,6 +25,6 @@ pub record Holds (table pool : List ℕ) (rows bytes : ℕ) (made : State) : Typ
   pub held : take bytes pool ≡ made.pool
 
 -- What a normalization of a table and its pool in place answers and leaves: where it is done, the result stands in the buffers.
-pub record Made (answer : Filled) (buffer work table pool : List ℕ) : Type 0 where
+pub record Made (answer : Result Filled Refusal) (buffer work table pool : List ℕ) : Type 0 where
   pub told : answer ≡ (normalized table pool (WIDTH * MOST_ROWS) MOST_BYTES).answer
-  pub holds : (rows bytes : ℕ) → answer ≡ Filled.Done rows bytes → Holds buffer work rows bytes (normal_form (nodes table pool) pool)
+  pub holds : (rows bytes : ℕ) → answer ≡ Ok (record { rows = rows; bytes = bytes }) → Holds buffer work rows bytes (normal_form (nodes table pool) pool)

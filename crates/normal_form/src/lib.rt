@@ -92,8 +92,5 @@ fn most_rows(rows: usize, limit: usize) -> usize
     requires { rows ≤ MOST_ROWS }
     ensures { result ≡ min limit (2 * rows) }
 {
-    if 2 * rows < limit {
-        return 2 * rows;
-    }
-    limit
+    limit.min(2 * rows)
 }

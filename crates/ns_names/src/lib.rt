@@ -22,9 +22,7 @@ pub fn enter_all(dictionary: &[u16], pool: &[u8], records: &mut [u16])
     ensures { Entered (spelling dictionary.now pool.now) (last_of dictionary.now) records.old records.new }
 {
     let last = dictionary::last(dictionary).0;
-    let mut n: u16 = 0;
-    while n < last {
-        n += 1;
+    for n in 1..=last {
         let k = numbered(dictionary::name_of(dictionary, pool, NameId(n)));
         enter(records, k, NameId(n));
     }
@@ -44,14 +42,11 @@ pub fn numbered(name: &[u8]) -> u32
         return 0;
     }
     let mut k: u32 = 0;
-    let mut i = 2;
-    while i < name.len() {
-        let byte = name[i];
-        if !follows(k, byte) {
+    for byte in &name[2..] {
+        if !follows(k, *byte) {
             return 0;
         }
-        k = k * 10 + (byte - 48) as u32;
-        i += 1;
+        k = k * 10 + (*byte - 48) as u32;
     }
     k
 }

@@ -87,12 +87,6 @@ row_read table bytes ea eb ec ed ee ef eg eh ei ej made =
     let words : List ℕ = number_at bytes 0 4 ∷ number_at bytes 4 4 ∷ number_at bytes 8 4 ∷ number_at bytes 12 4 ∷ number_at bytes 16 4 ∷ number_at bytes 20 4 ∷ number_at bytes 24 4 ∷ number_at bytes 28 4 ∷ number_at bytes 32 4 ∷ number_at bytes 36 4 ∷ 0 ∷ [] in
     made ∙ rw (ea, eb, ec, ed, ee, ef, eg, eh, ei, ej) (sym (written-from-start table words)) ∙ ap (written table 0) (sym (row_words bytes))
 
--- How much is left behind a place.
-pub rest-long : (l : List ℕ) (a n : ℕ) → a + n ≤ length l → n ≤ length (take (length l - a) (drop a l))
-rest-long l a n h =
-    let cut = length-drop a l in
-    rw (take_all (length l - a) (drop a l) (omega arith)) (omega arith)
-
 -- The rest of a table, written from its start and put back.
 rest_back : (t row : List ℕ) (a : ℕ) → a ≤ length t → (rest : List ℕ) → rest ≡ written (take (length t - a) (drop a t)) 0 row → put_mid a (length t - a) t rest ≡ written t a row
 rest_back t row a h rest e =
@@ -101,7 +95,7 @@ rest_back t row a h rest e =
     ∙ ap (λ (l : List ℕ). take a t ++ l) (append-nil rest ∙ e ∙ ap (λ (l : List ℕ). written l 0 row) (take_all (length t - a) (drop a t) (omega arith)) ∙ written-from-start (drop a t) row ∙ ap (λ (l : List ℕ). row ++ l) (drop-drop (length row) a t))
     ∙ sym (append_assoc (take a t) row (drop (a + length row) t))
 
-pub rows-kept : (t bytes : List ℕ) (rows : ℕ) → WIDTH * rows ≤ length t → length (written t 0 (rows_from rows bytes)) ≡ length t
+rows-kept : (t bytes : List ℕ) (rows : ℕ) → WIDTH * rows ≤ length t → length (written t 0 (rows_from rows bytes)) ≡ length t
 rows-kept t bytes rows room = let long = length-rows rows bytes in length-written t 0 (rows_from rows bytes) (omega arith)
 
 -- No row is read yet; and a turn of the loop that reads rows.

@@ -15,10 +15,8 @@ pub fn read(bytes: &[u8], table: &mut [u32], rows: usize)
     requires rows_in_bounds_2 { WIDTH * rows ≤ length table.old }
     ensures { table.new ≡ written table.old 0 (widened rows (words_from (OLD_WIDTH * rows) bytes.now)) }
 {
-    let mut r = 0;
-    while r < rows {
+    for r in 0..rows {
         read_row(&bytes[OLD_ROW_BYTES * r..], &mut table[rules::WIDTH * r..]);
-        r += 1;
     }
 }
 

@@ -4,8 +4,8 @@
 ghost use Rattle.std.specs.Prelude.{◌≡◌};
 ghost use Rattle.output_answers.specs.Given.{filled_given, written_given};
 
-use refusal_numbers::{Number, number_of};
-use rules::{Filled, Row, Written};
+use refusal_numbers::{NOT_REFUSED, Number};
+use rules::{Filled, Refusal};
 
 // The rows and bytes of two outputs that are used; 0 for a refusal.
 #[repr(C)]
@@ -24,27 +24,25 @@ pub struct Used {
     pub bytes: usize,
 }
 
-const NOT_REFUSED: Number = Number {
-    number: 0,
-    row: Row(0),
-    word: 0,
-};
+impl From<Result<Filled, Refusal>> for Sizes {
+    ghost from_gives = { λ answer sizes. sizes ≡ filled_given answer };
 
-pub fn filled(answer: Filled) -> Sizes
-    ensures { result ≡ filled_given answer }
-{
-    match answer {
-        Filled::Done { rows, bytes } => Sizes::new(NOT_REFUSED, rows, bytes),
-        Filled::Refused(refusal) => Sizes::new(number_of(refusal), 0, 0),
+    fn from(answer: Result<Filled, Refusal>) -> Sizes {
+        match answer {
+            Ok(filled) => Sizes::new(NOT_REFUSED, filled.rows, filled.bytes),
+            Err(refusal) => Sizes::new(refusal.into(), 0, 0),
+        }
     }
 }
 
-pub fn written(answer: Written) -> Used
-    ensures { result ≡ written_given answer }
-{
-    match answer {
-        Written::Done { bytes } => Used::new(NOT_REFUSED, bytes),
-        Written::Refused(refusal) => Used::new(number_of(refusal), 0),
+impl From<Result<usize, Refusal>> for Used {
+    ghost from_gives = { λ answer used. used ≡ written_given answer };
+
+    fn from(answer: Result<usize, Refusal>) -> Used {
+        match answer {
+            Ok(bytes) => Used::new(NOT_REFUSED, bytes),
+            Err(refusal) => Used::new(refusal.into(), 0),
+        }
     }
 }
 

@@ -1,5 +1,6 @@
 -- The limit of rows, the room, and what the outputs hold at the end.
 -- Assumes nothing.
+use Rattle.std.specs.Prelude.{Result, Ok, Err}
 use Prim.Native.Nat.{ℕ, ◌-◌, ◌*◌, ◌/◌, ◌≤◌, ◌<◌}
 use mathlib.Core.Path.{◌≡◌, refl, ◌∙◌, ap}
 use mathlib.Core.Logic.{inl, inr}
@@ -15,14 +16,13 @@ use Rattle.rules.specs.Table.{WIDTH, MOST_ROWS, MOST_BYTES}
 use Rattle.rules.specs.Refusals.{verdict, refused_if}
 use Rattle.rules.specs.Outputs.{Outcome, padded, refusal}
 use Rattle.rules.specs.declared.Refusal.{Refusal}
-use Rattle.rules.specs.declared.Checked.{Checked}
-use Rattle.rules.specs.declared.Filled.{Filled}
 use Rattle.rules.proofs.Refusals.{not-refused, AllNone, all_none, verdict-accepted, verdict-refused}
 use Rattle.rules.proofs.Lists.{both_false}
 use Rattle.rules.proofs.Bounds.{Limit}
 use Rattle.buffers.specs.Writes.{cleared}
 use Rattle.buffers.proofs.Meaning.{padded-part}
 use Rattle.outputs.specs.Ended.{room_lack, completed, ended}
+use Rattle.rules.specs.declared.Filled.{Filled}
 
 -- The limit of rows.
 pub limit-large : (words : ℕ) → MOST_ROWS < words / WIDTH → Limit words MOST_ROWS
@@ -32,31 +32,31 @@ pub limit-small : (words : ℕ) → words / WIDTH ≤ MOST_ROWS → Limit words 
 limit-small words h = (h, le_refl (words / WIDTH), inr refl)
 
 -- What a call answers and leaves in its outputs is an outcome.
-abbrev pub Answers : Outcome → Filled → List ℕ → List ℕ → Type 0
+abbrev pub Answers : Outcome → Result Filled Refusal → List ℕ → List ℕ → Type 0
 Answers outcome answer table pool = (answer ≡ outcome.answer) × ((table ≡ outcome.table) × (pool ≡ outcome.pool))
 
 cleared-all : (l : List ℕ) → cleared l 0 ≡ replicate (length l) 0
 cleared-all l = let all : length l - 0 ≡ length l = omega arith in rw all refl
 
-pub refuses : (table pool : List ℕ) (x : Refusal) {table' pool' : List ℕ} → table' ≡ cleared table 0 → pool' ≡ cleared pool 0 → Answers (refusal (length table) (length pool) x) (Filled.Refused x) table' pool'
+pub refuses : (table pool : List ℕ) (x : Refusal) {table' pool' : List ℕ} → table' ≡ cleared table 0 → pool' ≡ cleared pool 0 → Answers (refusal (length table) (length pool) x) (Err x) table' pool'
 unfolding refusal
 refuses table pool x t p = (refl, (t ∙ cleared-all table, p ∙ cleared-all pool))
 
 -- The room.
 module _ (limit size rows bytes : ℕ) where
-  pub no_row_room : ltb limit rows ≡ true → verdict (room_lack limit size rows bytes) ≡ Checked.Refused Refusal.RowRoom
+  pub no_row_room : ltb limit rows ≡ true → verdict (room_lack limit size rows bytes) ≡ Err Refusal.RowRoom
   unfolding room_lack
   no_row_room h = rw h refl
 
-  pub no-byte-room : ltb limit rows ≡ false → (ltb MOST_BYTES bytes || ltb size bytes) ≡ true → verdict (room_lack limit size rows bytes) ≡ Checked.Refused Refusal.PoolRoom
+  pub no-byte-room : ltb limit rows ≡ false → (ltb MOST_BYTES bytes || ltb size bytes) ≡ true → verdict (room_lack limit size rows bytes) ≡ Err Refusal.PoolRoom
   unfolding room_lack
   no-byte-room h q = rw (h, q) refl
 
-  pub room-enough : ltb limit rows ≡ false → (ltb MOST_BYTES bytes || ltb size bytes) ≡ false → verdict (room_lack limit size rows bytes) ≡ Checked.Accepted
+  pub room-enough : ltb limit rows ≡ false → (ltb MOST_BYTES bytes || ltb size bytes) ≡ false → verdict (room_lack limit size rows bytes) ≡ Ok tt
   unfolding room_lack
   room-enough h q = rw (h, q) refl
 
-  module _ (enough : verdict (room_lack limit size rows bytes) ≡ Checked.Accepted) where
+  module _ (enough : verdict (room_lack limit size rows bytes) ≡ Ok tt) where
     nothing : AllNone (refused_if (ltb limit rows) Refusal.RowRoom ∷ refused_if (ltb MOST_BYTES bytes || ltb size bytes) Refusal.PoolRoom ∷ [])
     unfolding room_lack
     nothing =
@@ -84,20 +84,20 @@ module _ (limit : ℕ) (table : List ℕ) (size : ℕ) (work : List ℕ) (rows b
   ended-completed h q = rw (h, q) refl
 
   -- What the room for the result tells of the answer.
-  pub answer-done : verdict (room_lack limit size rows bytes) ≡ Checked.Accepted → Filled.Done rows bytes ≡ (ended limit table size work rows bytes).answer
+  pub answer-done : verdict (room_lack limit size rows bytes) ≡ Ok tt → Ok (record { rows = rows; bytes = bytes }) ≡ (ended limit table size work rows bytes).answer
   unfolding ended completed
   answer-done e = rw (verdict-accepted (room_lack limit size rows bytes) e) refl
 
-  pub answer-refused : (x : Refusal) → verdict (room_lack limit size rows bytes) ≡ Checked.Refused x → Filled.Refused x ≡ (ended limit table size work rows bytes).answer
+  pub answer-refused : (x : Refusal) → verdict (room_lack limit size rows bytes) ≡ Err x → Err x ≡ (ended limit table size work rows bytes).answer
   unfolding ended refusal
   answer-refused x e = rw (verdict-refused (room_lack limit size rows bytes) x e) refl
 
   -- The two ways of `finish`.
-  pub ended-refused : {x : Refusal} → verdict (room_lack limit size rows bytes) ≡ Checked.Refused x → {answer : Filled} {table' pool' : List ℕ} → Answers (refusal (length table) size x) answer table' pool' → Answers (ended limit table size work rows bytes) answer table' pool'
+  pub ended-refused : {x : Refusal} → verdict (room_lack limit size rows bytes) ≡ Err x → {answer : Result Filled Refusal} {table' pool' : List ℕ} → Answers (refusal (length table) size x) answer table' pool' → Answers (ended limit table size work rows bytes) answer table' pool'
   unfolding ended
   ended-refused {x} e given = rw (verdict-refused (room_lack limit size rows bytes) x e) given
 
-  pub ended-done : verdict (room_lack limit size rows bytes) ≡ Checked.Accepted → WIDTH * rows ≤ length table → bytes ≤ length work → {table' : List ℕ} (pool : List ℕ) {copied pool' : List ℕ} → length pool ≡ size → table' ≡ cleared table (WIDTH * rows) → copied ≡ take bytes work ++ drop (length (take bytes work)) pool → pool' ≡ cleared copied bytes → Answers (ended limit table size work rows bytes) (Filled.Done rows bytes) table' pool'
+  pub ended-done : verdict (room_lack limit size rows bytes) ≡ Ok tt → WIDTH * rows ≤ length table → bytes ≤ length work → {table' : List ℕ} (pool : List ℕ) {copied pool' : List ℕ} → length pool ≡ size → table' ≡ cleared table (WIDTH * rows) → copied ≡ take bytes work ++ drop (length (take bytes work)) pool → pool' ≡ cleared copied bytes → Answers (ended limit table size work rows bytes) (Ok (record { rows = rows; bytes = bytes })) table' pool'
   unfolding ended completed
   ended-done e table_room work_room pool {copied} same is-table is-copied is-pool =
       let fits = enough-bytes limit size rows bytes e in

@@ -7,41 +7,37 @@ ghost use Rattle.rules.specs.Outputs.{refusal};
 ghost use Rattle.rules.proofs.Bounds.{Limit};
 ghost use Rattle.outputs.specs.Ended.{room_lack};
 
-use rules::{Checked, Filled, Refusal};
+use rules::{Filled, Refusal};
 
 // How many rows a result may have: as many as the output table holds whole, and no more than a table may.
 pub fn row_limit(words: usize) -> usize
     ensures { Limit words result }
 {
-    let whole = words / rules::WIDTH;
-    if rules::MOST_ROWS < whole {
-        return rules::MOST_ROWS;
-    }
-    whole
+    (words / rules::WIDTH).min(rules::MOST_ROWS)
 }
 
 // Refuses, and clears both outputs.
-pub fn refuse(out_table: &mut [u32], out_pool: &mut [u8], why: Refusal) -> Filled
+pub fn refuse(out_table: &mut [u32], out_pool: &mut [u8], why: Refusal) -> Result<Filled, Refusal>
     ensures value { result ≡ (refusal (length out_table.old) (length out_pool.old) why).answer }
     ensures out_table_after { out_table.new ≡ (refusal (length out_table.old) (length out_pool.old) why).table }
     ensures out_pool_after { out_pool.new ≡ (refusal (length out_table.old) (length out_pool.old) why).pool }
 {
     buffers::clear_words(out_table, 0);
     buffers::clear_bytes(out_pool, 0);
-    Filled::Refused(why)
+    Err(why)
 }
 
 // The room for so many rows and so many bytes of a pool: refusals 10 and 11.
-pub fn room(rows: usize, bytes: usize, limit: usize, size: usize) -> Checked
+pub fn room(rows: usize, bytes: usize, limit: usize, size: usize) -> Result<(), Refusal>
     ensures { result ≡ verdict (room_lack limit size rows bytes) }
 {
     let over_rows = limit < rows;
     let over_bytes = (rules::MOST_BYTES < bytes) | (size < bytes);
     if over_rows {
-        return Checked::Refused(Refusal::RowRoom);
+        return Err(Refusal::RowRoom);
     }
     if over_bytes {
-        return Checked::Refused(Refusal::PoolRoom);
+        return Err(Refusal::PoolRoom);
     }
-    Checked::Accepted
+    Ok(())
 }

@@ -1,21 +1,15 @@
 -- The lookups go along a path in one way: what is left of the path gives what the whole path gives.
 -- Assumes nothing.
-use Prim.Native.Nat.{ℕ, suc, ◌-◌, ◌≤◌, ◌<◌}
-use native.Mathlib.Omega.{arith}
-use native.Mathlib.Nat.{not-suc-le-zero}
-use mathlib.Core.Bool.{Bool, true, false, cond}
-use mathlib.Core.List.{List, [], ◌∷◌}
+use Rattle.std.proofs.Common.{ℕ, ◌+◌, ◌≤◌, ◌<◌, ◌≡◌, refl, sym, ap, ◌∙◌, Bool, true, false, cond, List, [], ◌∷◌, length, get_or, drop, add-one}
 use mathlib.Core.Option.{Option, none, some}
-use mathlib.Core.Path.{◌≡◌, refl, sym, ap, ◌∙◌, subst}
-use lib.ListN.{length, get_or, take, drop}
-use borrow.Author.Rules.{part_to_end}
+use lib.ListN.{drop_of_length-le}
+use lib.Seq.{drop-cons}
 use Rattle.rules.specs.Lists.{first_that}
 use Rattle.rules.specs.Table.{Field, Node, nodes, node, node_at, row_count}
 use Rattle.rules.specs.Lookups.{own_declarations, declares, unless_empty, Binding, declared as found_at, unbound, or_unbound, declared_value_or, names_uri, uri_of_prefix, declared_prefix_or, names_prefix, gives_prefix, prefix_among}
 use Rattle.rules.proofs.Table.{node-nodes}
 use Rattle.rows.specs.Reading.{found}
 use Rattle.ancestors.specs.Paths.{Element}
-use Rattle.declarations.specs.Along.{Along}
 use Rattle.declarations.proofs.Rows.{found_some, found_none}
 use Rattle.deciders.specs.Deciding.{Ordinary}
 
@@ -37,67 +31,51 @@ pub record Lookup (ns : List Node) (A : Type 0) : Type 0 where
       (e : ℕ) (outward : List ℕ)
       → answer (e ∷ outward) ≡ cond (named (node ns e)) (own (node ns e)) (declared_or declared (answer outward) (first_that test (own_declarations ns e)))
 
--- This is left of the path.
-pub record Left {A : Type 0} (table pool path : List ℕ) (lookup : Lookup (nodes table pool) A) (left : List ℕ) : Type 0 where
-  pub same : lookup.answer left ≡ lookup.answer path
-
--- e is the first element of what is left.
-module _ (table notes left : List ℕ) (along : Along table notes left) where
-  pub left-element : 0 < length left → (e : ℕ) → e ≡ get_or left 0 0 → Element table e
-  left-element less e here = subst (Element table) (sym here) (along.elements 0 less)
-
-  pub along-next : Along table notes (take (length left - 1) (drop 1 left))
-  along-next =
-      subst (Along table notes) (sym (part_to_end left 1))
-      (record { ready = along.ready; elements = outward left along.elements })
-    where
-      outward :
-          (left : List ℕ) → ((i : ℕ) → i < length left → Element table (get_or left i 0)) → (i : ℕ) → i < length (drop 1 left) → Element table (get_or (drop 1 left) i 0)
-      outward [] each i inside = absurd (not-suc-le-zero inside)
-      outward (x ∷ l) each i inside = each (suc i) (omega arith)
+-- What is left of the path from place i on gives what the whole path gives.
+pub record Left {A : Type 0} (table pool path : List ℕ) (lookup : Lookup (nodes table pool) A) (i : ℕ) : Type 0 where
+  pub same : lookup.answer (drop i path) ≡ lookup.answer path
 
 module _ {A : Type 0} (table pool path : List ℕ) (lookup : Lookup (nodes table pool) A) where
   abbrev ns : List Node
   ns = nodes table pool
 
-  pub left-first : Left table pool path lookup path
-  left-first = record { same = refl }
+  module _ (i : ℕ) (going : Left table pool path lookup i) where
+    pub left_end : length path ≤ i → lookup.nothing ≡ lookup.answer path
+    left_end past = sym lookup.end ∙ sym (ap lookup.answer (drop_of_length-le path past)) ∙ going.same
 
-  pub left_end : (left : List ℕ) → Left table pool path lookup left → length left ≡ 0 → lookup.nothing ≡ lookup.answer path
-  left_end [] going over = sym lookup.end ∙ going.same
-  left_end (e ∷ outward) going over = absurd (not-suc-le-zero (subst (λ n. suc (length outward) ≤ n) over (omega arith)))
+    module _ (less : i < length path) (element : Element table (get_or path i 0)) where
+      -- the first element of what is left
+      abbrev e : ℕ
+      e = get_or path i 0
 
-  -- e is the first element of what is left.
-  module _ (left : List ℕ) (going : Left table pool path lookup left) (less : 0 < length left) (e : ℕ) (here : e ≡ get_or left 0 0) (element : Element table e) where
-    split : (left : List ℕ) → 0 < length left → e ≡ get_or left 0 0 → left ≡ e ∷ drop 1 left
-    split [] less here = absurd (not-suc-le-zero less)
-    split (x ∷ outward) less here = ap (λ y. y ∷ outward) (sym here)
+      split : drop i path ≡ e ∷ drop (i + 1) path
+      split = rw add-one (drop-cons path i 0 less)
 
-    -- the answer, by whether the element's own name answers
-    by :
-        (t : Bool) → lookup.named (node_at table pool e) ≡ t
-        → cond t (lookup.own (node_at table pool e)) (declared_or lookup.declared (lookup.answer (drop 1 left)) (first_that lookup.test (own_declarations ns e))) ≡ lookup.answer path
-    by t is =
-        let row = node-nodes table pool e element.within in
-        let further = declared_or lookup.declared (lookup.answer (drop 1 left)) (first_that lookup.test (own_declarations ns e)) in
-        sym (ap lookup.answer (split left less here) ∙ lookup.step e (drop 1 left)
-        ∙ ap (λ n. cond (lookup.named n) (lookup.own n) further) row
-        ∙ ap (λ u. cond u (lookup.own (node_at table pool e)) further) is)
-        ∙ going.same
+      -- the answer, by whether the element's own name answers
+      by :
+          (t : Bool) → lookup.named (node_at table pool e) ≡ t
+          → cond t (lookup.own (node_at table pool e)) (declared_or lookup.declared (lookup.answer (drop (i + 1) path)) (first_that lookup.test (own_declarations ns e))) ≡ lookup.answer path
+      by t is =
+          let row = node-nodes table pool e element.within in
+          let further = declared_or lookup.declared (lookup.answer (drop (i + 1) path)) (first_that lookup.test (own_declarations ns e)) in
+          sym (ap lookup.answer split ∙ lookup.step e (drop (i + 1) path)
+          ∙ ap (λ n. cond (lookup.named n) (lookup.own n) further) row
+          ∙ ap (λ u. cond u (lookup.own (node_at table pool e)) further) is)
+          ∙ going.same
 
-    pub left-own : lookup.named (node_at table pool e) ≡ true → lookup.own (node_at table pool e) ≡ lookup.answer path
-    left-own is = by true is
+      pub left-own : lookup.named (node_at table pool e) ≡ true → lookup.own (node_at table pool e) ≡ lookup.answer path
+      left-own is = by true is
 
-    -- Its own name does not answer, and d is the first of its declarations that passes, if there is one.
-    module _ (other : lookup.named (node_at table pool e) ≡ false) (d : ℕ) (first-own : found ns d ≡ first_that lookup.test (own_declarations ns e)) where
-      further : (o : Option Node) → found ns d ≡ o → declared_or lookup.declared (lookup.answer (drop 1 left)) o ≡ lookup.answer path
-      further o is = ap (declared_or lookup.declared (lookup.answer (drop 1 left))) (sym is ∙ first-own) ∙ by false other
+      -- Its own name does not answer, and d is the first of its declarations that passes, if there is one.
+      module _ (other : lookup.named (node_at table pool e) ≡ false) (d : ℕ) (first-own : found ns d ≡ first_that lookup.test (own_declarations ns e)) where
+        further : (o : Option Node) → found ns d ≡ o → declared_or lookup.declared (lookup.answer (drop (i + 1) path)) o ≡ lookup.answer path
+        further o is = ap (declared_or lookup.declared (lookup.answer (drop (i + 1) path))) (sym is ∙ first-own) ∙ by false other
 
-      pub left-declared : d < row_count table → lookup.declared (node_at table pool d) ≡ lookup.answer path
-      left-declared within = further (some (node_at table pool d)) (found_some table pool d within)
+        pub left-declared : d < row_count table → lookup.declared (node_at table pool d) ≡ lookup.answer path
+        left-declared within = further (some (node_at table pool d)) (found_some table pool d within)
 
-      pub left-next : row_count table ≤ d → Left table pool path lookup (take (length left - 1) (drop 1 left))
-      left-next past = subst (Left table pool path lookup) (sym (part_to_end left 1)) (record { same = further none (found_none table pool d past) })
+        pub left-next : row_count table ≤ d → Left table pool path lookup (i + 1)
+        left-next past = record { same = further none (found_none table pool d past) }
 
 -- The URI of a prefix that is not built in.
 module _ (ns : List Node) (prefix : List ℕ) (ordinary : Ordinary prefix) where

@@ -19,24 +19,24 @@ pub fn uri_of_prefix(
     path: &[u32],
     prefix: &[u8],
     number: NameId,
-) -> Bound
+) -> Option<Bound>
     requires { Started table.now notes.now path.now }
     ensures { (pool : List ℕ) → Meant table.now pool notes.now number.0 prefix.now → result ≡ bound (uri_of_prefix (nodes table.now pool) prefix.now path.now) }
 {
     if built_ins::is_xml(prefix) {
-        return Bound::Xml;
+        return Some(Bound::Xml);
     }
     if built_ins::is_xmlns(prefix) {
-        return Bound::Xmlns;
+        return Some(Bound::Xmlns);
     }
     let row = deciding(table, notes, path, number);
     if deciders::uri_number(table, notes, row).0 == 0 {
-        return Bound::Nothing;
+        return None;
     }
     if rows::kind(table, row) == rules::DECLARATION {
-        return Bound::At(rows::place(table, row, rules::VALUE));
+        return Some(Bound::At(rows::place(table, row, rules::VALUE)));
     }
-    Bound::At(rows::place(table, row, rules::URI))
+    Some(Bound::At(rows::place(table, row, rules::URI)))
 }
 
 // The row that decides the URI of a prefix that is not built in: an element by its own name, or a declaration.
@@ -44,12 +44,10 @@ pub fn deciding(table: &[u32], notes: &[u16], path: &[u32], prefix: NameId) -> R
     requires { Along table.now notes.now path.now }
     ensures { (pool name : List ℕ) → Meant table.now pool notes.now prefix.0 name → Ordinary name → decided (found (nodes table.now pool) result.0) ≡ uri_of_prefix (nodes table.now pool) name path.now }
 {
-    let wanted = prefix.0;
-    let mut left = path;
-    while left.len() > 0 {
-        let element = rows::row_at(left, 0);
-        let named = deciders::names_uri(table, notes, element, NameId(wanted));
-        let own = declarations::own(table, notes, element, NameId(wanted));
+    for element in path {
+        let element = Row(*element);
+        let named = deciders::names_uri(table, notes, element, prefix);
+        let own = declarations::own(table, notes, element, prefix);
         let declared = rows::has_row(table, own);
         if named {
             return element;
@@ -57,7 +55,6 @@ pub fn deciding(table: &[u32], notes: &[u16], path: &[u32], prefix: NameId) -> R
         if declared {
             return own;
         }
-        left = &left[1..];
     }
     Row(rules::NONE)
 }

@@ -1,5 +1,6 @@
 -- What the packed form leaves as a bundle, from what the parts leave.
 -- Assumes nothing.
+use Rattle.std.specs.Prelude.{Result}
 use Prim.Native.Nat.{ℕ, ◌+◌, ◌*◌, ◌≤◌, ◌<◌}
 use mathlib.Core.Path.{◌≡◌, refl, sym, ap, ◌∙◌, subst}
 use mathlib.Core.Bool.{Bool, true, false}
@@ -13,7 +14,6 @@ use lib.Seq.{length-take-le, drop_at, drop-length}
 use Rattle.rules.specs.Table.{MOST_BYTES, nodes}
 use Rattle.rules.specs.Refusals.{check_refusal}
 use Rattle.rules.specs.declared.Refusal.{Refusal}
-use Rattle.rules.specs.declared.Written.{Written}
 use Rattle.rules.proofs.Lists.{by_cases}
 use Rattle.bundles.specs.Bundles.{HEADER, write_bundle}
 use Rattle.bundles.specs.Operations.{write_refused, write_done, state_bundle}
@@ -23,12 +23,12 @@ use Rattle.packed_bundle.specs.Leaving.{Leaves}
 use Rattle.packed_bundle.proofs.Bundled.{into-refused, into-past, into-short, into-done, packed-words, bundle-size}
 
 -- What the check refuses.
-pub check-left : (table pool : List ℕ) (size : ℕ) (x : Refusal) → check_refusal table pool ≡ some x → {answer : Written} {out : List ℕ} → Leaves (write_refused size x) answer out → Leaves (packed_into table pool size) answer out
+pub check-left : (table pool : List ℕ) (size : ℕ) (x : Refusal) → check_refusal table pool ≡ some x → {answer : Result ℕ Refusal} {out : List ℕ} → Leaves (write_refused size x) answer out → Leaves (packed_into table pool size) answer out
 check-left table pool size x e given = rw (into-refused table pool size x e) given
 
 module _ (table pool : List ℕ) (a : check_refusal table pool ≡ none) {packed part : List ℕ} {fits : Bool} {used : ℕ} (packs : TablePacked table pool packed part MOST_BYTES false fits used) where
   -- 11.
-  pub past-left : fits ≡ false → {size size' : ℕ} → size' ≡ size → {answer : Written} {out : List ℕ} → Leaves (write_refused size' Refusal.PoolRoom) answer out → Leaves (packed_into table pool size) answer out
+  pub past-left : fits ≡ false → {size size' : ℕ} → size' ≡ size → {answer : Result ℕ Refusal} {out : List ℕ} → Leaves (write_refused size' Refusal.PoolRoom) answer out → Leaves (packed_into table pool size) answer out
   past-left e {size} same given = rw (into-past table pool size a (packs.past e refl), sym same) given
 
   pub rows-size : fits ≡ true → length (take (length table) packed) ≡ length table
@@ -62,7 +62,7 @@ module _ (table pool : List ℕ) (a : check_refusal table pool ≡ none) {packed
         ap (take used) behind-it ∙ packs.bytes e (omega (arith, room, long, front))
 
     pub done-left :
-        {answer : Written} {left : List ℕ}
+        {answer : Result ℕ Refusal} {left : List ℕ}
         → (HEADER + 4 * length (take (length table) packed) + used ≤ length out → Leaves (write_done (length out) (write_bundle (take (length table) packed) (take used (drop (HEADER + 4 * length (take (length table) packed)) out)))) answer left)
         → (length out < HEADER + 4 * length (take (length table) packed) + used → Leaves (write_refused (length out) Refusal.BundleRoom) answer left)
         → Leaves (packed_into table pool (length out₀)) answer left

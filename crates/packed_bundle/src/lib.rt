@@ -13,7 +13,7 @@ ghost use Rattle.packed_table.specs.Packed.{Enough, Blank, Noted};
 ghost use Rattle.packed_bundle.specs.Leaving.{Leaves};
 
 use bundles::HEADER;
-use rules::{Refusal, Written};
+use rules::Refusal;
 
 // Packs a table that the check accepts, the numbers of its names noted, into a bundle: or 11, or 33.
 pub fn pack(
@@ -25,7 +25,7 @@ pub fn pack(
     starts: &mut [u16],
     packed: &mut [u32],
     out: &mut [u8],
-) -> Written
+) -> Result<usize, Refusal>
     requires enough { Enough table.now pool.now notes.now index.old starts.old packed.old MOST_BYTES }
     requires dictionary { Dictionary dictionary.old pool.now × Blank index.old starts.old }
     requires by_index { (spelling : ℕ → List ℕ) × (last : ℕ) × Noted table.now pool.now notes.now spelling last }
@@ -53,14 +53,11 @@ pub fn pack(
 fn start_of(behind: usize, size: usize) -> usize
     ensures { (result ≤ size) × (behind ≤ size → result ≡ behind) }
 {
-    if behind > size {
-        return size;
-    }
-    behind
+    behind.min(size)
 }
 
 // The bundle of packed rows whose pool, of so many bytes, stands in the output; or 33.
-fn finish(packed: &[u32], bytes: usize, out: &mut [u8]) -> Written
+fn finish(packed: &[u32], bytes: usize, out: &mut [u8]) -> Result<usize, Refusal>
     requires { (length packed.now ≤ WIDTH * MOST_ROWS) × (bytes ≤ MOST_BYTES) }
     ensures leaves { HEADER + 4 * length packed.now + bytes ≤ length out.old → Leaves (write_done (length out.old) (write_bundle packed.now (take bytes (drop (HEADER + 4 * length packed.now) out.old)))) result out.new }
     ensures leaves_2 { length out.old < HEADER + 4 * length packed.now + bytes → Leaves (write_refused (length out.old) Refusal.BundleRoom) result out.new }

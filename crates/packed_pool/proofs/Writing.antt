@@ -7,7 +7,7 @@ use native.Mathlib.Omega.{arith}
 use borrow.Author.Tests.{ltb-true, ltb-false}
 use lib.Dec.{ltb}
 use lib.ListN.{length, get_or, set, take, drop, length-append, get_or-append}
-use lib.Seq.{length-take-le, get_or-append-add, get_or-take, set-get_or, paste, paste-zero}
+use lib.Seq.{length-take-le, get_or-append-add, get_or-take, set-get_or, paste}
 use Rattle.rules.proofs.Lists.{by_cases}
 use Rattle.buffers.specs.Writes.{written}
 use Rattle.buffers.proofs.Writes.{write_step, write-end}
@@ -53,9 +53,6 @@ module _ (whole : List ℕ) (at : ℕ) (l : List ℕ) (room : at + length l ≤ 
       let b₂ = rw n₂ at (next (i + 1) (omega arith) b₁) in
       let b₃ = rw n₃ at (next (i + 2) (omega arith) b₂) in
       rw (p₁, p₂, p₃) (rw n₄ at (next (i + 3) (omega arith) b₃))
-
-  pub begun-none : Begun whole at l 0 whole
-  begun-none = record { count = 0; enough = omega arith; within = omega arith; bytes = paste-zero whole at l }
 
   pub begun-less : {t : List ℕ} {i : ℕ} (j : ℕ) → j ≤ i → Begun whole at l i t → Begun whole at l j t
   begun-less j h b = let enough = b.enough in record { count = b.count; enough = omega arith; within = b.within; bytes = b.bytes }

@@ -220,10 +220,8 @@ fn write(out: &mut [u8], at: usize, name: &[u8])
         buffers::write_bytes(out, at, name);
         return;
     }
-    let mut i = 0;
-    while i + 4 < name.len() {
-        write_four(out, at, name, i);
-        i += 4;
+    for four in 0..(name.len() - 1) / 4 {
+        write_four(out, at, name, 4 * four);
     }
     write_four(out, at, name, name.len() - 4);
 }
@@ -301,12 +299,10 @@ fn recall_recent(index: &[u16], place: Place) -> u16
     requires { ENTRIES ≤ length index.now }
     ensures { (hashed : List ℕ → ℕ) (pool : List ℕ) (names : List (List ℕ)) → Index hashed index.now pool names → Marks names result (part pool place.offset.0 place.length) }
 {
-    let mut slot = 0;
-    while slot < RECENT {
+    for slot in 0..RECENT {
         if is_seen(index, slot, place) {
             return packed_index::seen(index, slot, 2);
         }
-        slot += 1;
     }
     0
 }

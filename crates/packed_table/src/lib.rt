@@ -79,8 +79,8 @@ fn pack_hard(
     ensures { TablePacked table.now pool.now out_table.new out.new limit false result.fits result.used }
 {
     dictionary::harden(dictionary, table, pool);
-    clear(index);
-    clear(starts);
+    index.fill(0);
+    starts.fill(0);
     buffers::copy_words(table, out_table);
     let fits = pack_rows(
         table,
@@ -116,9 +116,7 @@ fn pack_rows(
     requires { (spelling : ℕ → List ℕ) × (last : ℕ) × (rest : List ℕ) × Start table.now pool.now tables.now notes.now index.old starts.old out_table.old limit spelling last rest }
     ensures { TablePacked table.now pool.now out_table.new out.new limit (easy && is_hard index.new) result (get_or index.new USED 0) }
 {
-    let count = rows::row_count(table) as u32;
-    let mut r: u32 = 0;
-    while r < count {
+    for r in 0..rows::row_count(table) as u32 {
         if !packed_rows::pack_row(
             table,
             pool,
@@ -134,7 +132,6 @@ fn pack_rows(
         ) {
             return false;
         }
-        r += 1;
     }
     true
 }
@@ -152,14 +149,4 @@ fn is_plain(dictionary: &[u16]) -> bool
     requires { PLACES + NAMES ≤ length dictionary.now }
 {
     dictionary[dictionary::PLACES + entries::TABLES] == 0
-}
-
-fn clear(words: &mut [u16])
-    ensures { (i : ℕ) → get_or words.new i 0 ≡ 0 }
-{
-    let mut i = 0;
-    while i < words.len() {
-        words[i] = 0;
-        i += 1;
-    }
 }

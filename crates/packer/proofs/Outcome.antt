@@ -1,5 +1,6 @@
 -- What packing answers and leaves: each refusal, and the result.
 -- Assumes nothing.
+use Rattle.std.specs.Prelude.{Result, Ok, Err, ⊤}
 use Prim.Native.Nat.{ℕ, ◌+◌, ◌*◌, ◌/◌, ◌≤◌, ◌<◌}
 use mathlib.Core.Path.{◌≡◌, refl, sym, ◌∙◌, ap}
 use mathlib.Core.Bool.{Bool, true, false, ◌||◌}
@@ -14,8 +15,6 @@ use Rattle.rules.specs.Refusals.{check_refusal, checked}
 use Rattle.rules.specs.Outputs.{Outcome, refusal}
 use Rattle.rules.specs.Normalization.{success, too_many_rows, too_many_bytes, room_refusal}
 use Rattle.rules.specs.declared.Refusal.{Refusal}
-use Rattle.rules.specs.declared.Checked.{Checked}
-use Rattle.rules.specs.declared.Filled.{Filled}
 use Rattle.rules.proofs.Lists.{by_cases, either_left, either-right}
 use Rattle.rules.proofs.Refusals.{verdict-accepted, verdict-refused}
 use Rattle.rules.proofs.Table.{length-nodes}
@@ -30,6 +29,7 @@ use Rattle.packed_index.specs.Index.{ENTRIES}
 use Rattle.packed_table.specs.Packed.{Enough, Noted, TablePacked}
 use Rattle.packed_table.proofs.Going.{few-rows, whole-rows}
 use Rattle.packer.specs.Lent.{Lent, Limit}
+use Rattle.rules.specs.declared.Filled.{Filled}
 
 -- Zeros, also behind the end.
 zeros : (size i : ℕ) → get_or (replicate {A = ℕ} size 0) i 0 ≡ 0
@@ -38,11 +38,11 @@ zeros size i =
     (λ q. get_or-replicate {A = ℕ} size i 0 0 (ltb-true i size q))
     (λ q. let long = ltb-false i size q in get_or-eq_default (replicate {A = ℕ} size 0) 0 (rw length-replicate long))
 
-pub drawn-refused : (table pool : List ℕ) {drawn : Checked} → drawn ≡ checked table pool → (x : Refusal) → drawn ≡ Checked.Refused x → check_refusal table pool ≡ some x
+pub drawn-refused : (table pool : List ℕ) {drawn : Result ⊤ Refusal} → drawn ≡ checked table pool → (x : Refusal) → drawn ≡ Err x → check_refusal table pool ≡ some x
 unfolding checked
 drawn-refused table pool d x e = verdict-refused (check_refusal table pool) x (sym d ∙ e)
 
-pub drawn-accepted : (table pool : List ℕ) {drawn : Checked} → drawn ≡ checked table pool → drawn ≡ Checked.Accepted → check_refusal table pool ≡ none
+pub drawn-accepted : (table pool : List ℕ) {drawn : Result ⊤ Refusal} → drawn ≡ checked table pool → drawn ≡ Ok tt → check_refusal table pool ≡ none
 unfolding checked
 drawn-accepted table pool d e = verdict-accepted (check_refusal table pool) (sym d ∙ e)
 
@@ -92,7 +92,7 @@ module _ (table pool : List ℕ) (table_size pool_size : ℕ) where
           rw (a, row_room, le-ltb MOST_BYTES size m, le-ltb pool_size size p) refl
 
 -- What is answered and left.
-pub record Answers (o : Outcome) (answer : Filled) (table pool : List ℕ) : Type 0 where
+pub record Answers (o : Outcome) (answer : Result Filled Refusal) (table pool : List ℕ) : Type 0 where
   pub said : answer ≡ o.answer
   pub rows : table ≡ o.table
   pub bytes : pool ≡ o.pool
@@ -101,7 +101,7 @@ pub record Answers (o : Outcome) (answer : Filled) (table pool : List ℕ) : Typ
 pub packed-answers :
     (table pool out_table out_pool : List ℕ) → check_refusal table pool ≡ none → row_count table ≤ MOST_ROWS → row_count table ≤ length out_table / WIDTH → {limit used rows : ℕ} {out_table' out_pool' : List ℕ}
     → Limit (length out_pool) limit → rows ≡ row_count table → {fits : Bool} → TablePacked table pool out_table' out_pool' limit false fits used → fits ≡ true → length out_table' ≡ length out_table → length out_pool' ≡ length out_pool
-    → {t p : List ℕ} → t ≡ cleared out_table' (WIDTH * rows) → p ≡ cleared out_pool' used → Answers (packed table pool (length out_table) (length out_pool)) (Filled.Done rows used) t p
+    → {t p : List ℕ} → t ≡ cleared out_table' (WIDTH * rows) → p ≡ cleared out_pool' used → Answers (packed table pool (length out_table) (length out_pool)) (Ok (record { rows = rows; bytes = used })) t p
 unfolding success
 packed-answers table pool out_table out_pool a few room {limit} {used} {rows} {out_table'} {out_pool'} l n packs fits long kept ct cp =
     let form = packed_form (nodes table pool) in
@@ -123,12 +123,12 @@ packed-answers table pool out_table out_pool a few room {limit} {used} {rows} {o
 
 -- A refusal in the outputs.
 pub refuse-answers :
-    {o : Outcome} {table_size pool_size table_size' pool_size' : ℕ} (x : Refusal) {answer : Filled} {t p : List ℕ} → o ≡ refusal table_size pool_size x → table_size' ≡ table_size → pool_size' ≡ pool_size
+    {o : Outcome} {table_size pool_size table_size' pool_size' : ℕ} (x : Refusal) {answer : Result Filled Refusal} {t p : List ℕ} → o ≡ refusal table_size pool_size x → table_size' ≡ table_size → pool_size' ≡ pool_size
     → answer ≡ (refusal table_size' pool_size' x).answer → t ≡ (refusal table_size' pool_size' x).table → p ≡ (refusal table_size' pool_size' x).pool → Answers o answer t p
 refuse-answers x e l m a b c = rw e (record { said = rw (l, m) at a; rows = rw (l, m) at b; bytes = rw (l, m) at c })
 
 pub checked-answers :
-    (table pool : List ℕ) (table_size pool_size : ℕ) {drawn : Checked} → drawn ≡ checked table pool → (x : Refusal) → drawn ≡ Checked.Refused x → {answer : Filled} {t p : List ℕ}
+    (table pool : List ℕ) (table_size pool_size : ℕ) {drawn : Result ⊤ Refusal} → drawn ≡ checked table pool → (x : Refusal) → drawn ≡ Err x → {answer : Result Filled Refusal} {t p : List ℕ}
     → answer ≡ (refusal table_size pool_size x).answer → t ≡ (refusal table_size pool_size x).table → p ≡ (refusal table_size pool_size x).pool → Answers (packed table pool table_size pool_size) answer t p
 checked-answers table pool table_size pool_size d x e a b c =
     refuse-answers x (packed-refused table pool table_size pool_size x (drawn-refused table pool d x e)) refl refl a b c

@@ -2,15 +2,14 @@
 // row and then word.
 #![tactic(auto)]
 
-ghost use Rattle.std.specs.Prelude.{◌≡◌, List, ℕ, ◌/◌, ◌≤◌, length};
+ghost use Rattle.std.specs.Prelude.{◌≡◌, List, ℕ, ◌/◌, ◌≤◌, length, replicate, ◌<◌};
 ghost use Rattle.rules.specs.Table.{WIDTH, row_count};
-ghost use Rattle.table_size.specs.Small.{FEW_ROWS};
 ghost use Rattle.dictionary.specs.Dictionary.{Dictionary};
 ghost use Rattle.packing.specs.Packing.{packed};
 ghost use Rattle.packed_table.specs.Packed.{Enough, Blank, Noted};
 ghost use Rattle.packer.specs.Lent.{Lent, Limit};
 
-use rules::{Checked, Filled, Refusal};
+use rules::{Filled, Refusal};
 
 // The words of the arrays that are lent for a small table and for any.
 pub const SMALL_INDEX: usize = packed_index::EMPTY_WORDS
@@ -25,57 +24,53 @@ pub const STARTS: usize = 3 * rules::MOST_ROWS + 1;
 // Packs a table and its pool into an output table and an output pool. Every field keeps its bytes and every other word its number.
 // Success answers the rows and bytes that the result takes; the rest of both outputs is zero. A refusal, by the check's numbers
 // and then 10 or 11, leaves both outputs all zero.
-pub fn pack(table: &[u32], pool: &[u8], out_table: &mut [u32], out_pool: &mut [u8]) -> Filled
+pub fn pack(
+    table: &[u32],
+    pool: &[u8],
+    out_table: &mut [u32],
+    out_pool: &mut [u8],
+) -> Result<Filled, Refusal>
     ensures value { result ≡ (packed table.now pool.now (length out_table.old) (length out_pool.old)).answer }
     ensures out_table_after { out_table.new ≡ (packed table.now pool.now (length out_table.old) (length out_pool.old)).table }
     ensures out_pool_after { out_pool.new ≡ (packed table.now pool.now (length out_table.old) (length out_pool.old)).pool }
 {
     if rows::row_count(table) <= table_size::FEW_ROWS {
-        return pack_small(table, pool, out_table, out_pool);
+        return pack_in::<
+            { checker::SMALL_DICTIONARY },
+            { checker::SMALL_NOTES },
+            SMALL_INDEX,
+            SMALL_STARTS,
+        >(table, pool, out_table, out_pool);
     }
-    pack_any(table, pool, out_table, out_pool)
-}
-
-// Packing in arrays for a small table.
-fn pack_small(table: &[u32], pool: &[u8], out_table: &mut [u32], out_pool: &mut [u8]) -> Filled
-    requires { row_count table.now ≤ FEW_ROWS }
-    ensures value { result ≡ (packed table.now pool.now (length out_table.old) (length out_pool.old)).answer }
-    ensures out_table_after { out_table.new ≡ (packed table.now pool.now (length out_table.old) (length out_pool.old)).table }
-    ensures out_pool_after { out_pool.new ≡ (packed table.now pool.now (length out_table.old) (length out_pool.old)).pool }
-{
-    let mut dictionary = [0; checker::SMALL_DICTIONARY];
-    let mut notes = [0; checker::SMALL_NOTES];
-    let mut index = [0; SMALL_INDEX];
-    let mut starts = [0; SMALL_STARTS];
-    pack_lent(
-        table,
-        pool,
-        &mut dictionary,
-        &mut notes,
-        &mut index,
-        &mut starts,
-        out_table,
-        out_pool,
+    pack_in::<{ checker::DICTIONARY }, { checker::NOTES }, INDEX, STARTS>(
+        table, pool, out_table, out_pool,
     )
 }
 
-// Packing in arrays for any table.
-fn pack_any(table: &[u32], pool: &[u8], out_table: &mut [u32], out_pool: &mut [u8]) -> Filled
+// Packing in arrays of so many words.
+#[inline(never)]
+fn pack_in<
+    const DICTIONARY_WORDS: usize,
+    const NOTE_WORDS: usize,
+    const INDEX_WORDS: usize,
+    const START_WORDS: usize,
+>(table: &[u32], pool: &[u8], out_table: &mut [u32], out_pool: &mut [u8]) -> Result<Filled, Refusal>
+    requires dictionary_size { DICTIONARY_WORDS < 65536 }
+    requires note_size { NOTE_WORDS < 65536 }
+    requires index_size { INDEX_WORDS < 65536 }
+    requires start_size { START_WORDS < 65536 }
+    requires lent { Lent table.now (replicate DICTIONARY_WORDS 0) (replicate NOTE_WORDS 0) (replicate INDEX_WORDS 0) (replicate START_WORDS 0) }
     ensures value { result ≡ (packed table.now pool.now (length out_table.old) (length out_pool.old)).answer }
     ensures out_table_after { out_table.new ≡ (packed table.now pool.now (length out_table.old) (length out_pool.old)).table }
     ensures out_pool_after { out_pool.new ≡ (packed table.now pool.now (length out_table.old) (length out_pool.old)).pool }
 {
-    let mut dictionary = [0; checker::DICTIONARY];
-    let mut notes = [0; checker::NOTES];
-    let mut index = [0; INDEX];
-    let mut starts = [0; STARTS];
     pack_lent(
         table,
         pool,
-        &mut dictionary,
-        &mut notes,
-        &mut index,
-        &mut starts,
+        &mut [0; DICTIONARY_WORDS],
+        &mut [0; NOTE_WORDS],
+        &mut [0; INDEX_WORDS],
+        &mut [0; START_WORDS],
         out_table,
         out_pool,
     )
@@ -91,14 +86,14 @@ fn pack_lent(
     starts: &mut [u16],
     out_table: &mut [u32],
     out_pool: &mut [u8],
-) -> Filled
+) -> Result<Filled, Refusal>
     requires { Lent table.now dictionary.old notes.old index.old starts.old }
     ensures value { result ≡ (packed table.now pool.now (length out_table.old) (length out_pool.old)).answer }
     ensures out_table_after { out_table.new ≡ (packed table.now pool.now (length out_table.old) (length out_pool.old)).table }
     ensures out_pool_after { out_pool.new ≡ (packed table.now pool.now (length out_table.old) (length out_pool.old)).pool }
 {
     match checker::check_numbered(table, pool, dictionary, notes) {
-        Checked::Accepted => {
+        Ok(()) => {
             if out_table.len() / rules::WIDTH < rows::row_count(table) {
                 return outputs::refuse(out_table, out_pool, Refusal::RowRoom);
             }
@@ -107,7 +102,7 @@ fn pack_lent(
                 table, pool, dictionary, notes, index, starts, out_table, out_pool, limit,
             )
         }
-        Checked::Refused(x) => outputs::refuse(out_table, out_pool, x),
+        Err(x) => outputs::refuse(out_table, out_pool, x),
     }
 }
 
@@ -122,7 +117,7 @@ fn pack_accepted(
     out_table: &mut [u32],
     out_pool: &mut [u8],
     limit: usize,
-) -> Filled
+) -> Result<Filled, Refusal>
     requires enough { Enough table.now pool.now notes.now index.old starts.old out_table.old limit }
     requires dictionary { Dictionary dictionary.old pool.now × Blank index.old starts.old }
     requires by_index { (spelling : ℕ → List ℕ) × (last : ℕ) × Noted table.now pool.now notes.now spelling last }
@@ -140,18 +135,15 @@ fn pack_accepted(
     let rows = rows::row_count(table);
     buffers::clear_words(out_table, rows);
     buffers::clear_bytes(out_pool, made.used);
-    Filled::Done {
+    Ok(Filled {
         rows,
         bytes: made.used,
-    }
+    })
 }
 
 // How many bytes a packed pool may have: as many as the output pool has, and no more than a pool may.
 fn pool_limit(bytes: usize) -> usize
     ensures { Limit bytes result }
 {
-    if bytes > rules::MOST_BYTES {
-        return rules::MOST_BYTES;
-    }
-    bytes
+    bytes.min(rules::MOST_BYTES)
 }

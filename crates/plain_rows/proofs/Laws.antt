@@ -1,5 +1,6 @@
 -- What one look at a field and at a row tells.
 -- Assumes nothing.
+use Rattle.std.specs.Prelude.{Ok}
 use Prim.Native.Nat.{ℕ, ◌+◌, ◌≤◌, ◌<◌}
 use mathlib.Core.Path.{◌≡◌, refl, sym, ◌∙◌}
 use mathlib.Core.Bool.{Bool, true, false, ◌&&◌, ◌||◌, not}
@@ -14,7 +15,6 @@ use Rattle.rules.specs.Table.{MOST_ROWS, TYPE, PARENT, PREFIX, LOCAL_NAME, URI, 
 use Rattle.rules.specs.Utf8.{is_ascii, well_formed}
 use Rattle.rules.specs.Refusals.{parent_rule, bad_structure}
 use Rattle.rules.specs.declared.Place.{Place}
-use Rattle.rules.specs.declared.Checked.{Checked}
 use Rattle.rules.proofs.Lists.{by_cases, both_true, true-not-false, equal-same_bytes}
 use Rattle.rules.proofs.Refusals.{verdict-accepted}
 use Rattle.rows.specs.Reading.{place_at}
@@ -210,7 +210,7 @@ module _ (table pool dictionary : List ℕ) (r : ℕ) where
     pub plain-told : {of : Told} → Named table pool dictionary r of → GoodValue table pool r → (word table r TYPE ≡ ELEMENT → is_nothing table r VALUE ≡ true) → Plain table pool dictionary r of
     plain-told n v nothing =
         let fields = n.fields v.fits nothing in
-        let place = place-fields table pool r h stands {drawn = Checked.Accepted} (rw fields refl) in
+        let place = place-fields table pool r h stands {drawn = Ok tt} (rw fields refl) in
         let names = good-passed r (node_at table pool r) n.good refl (rw v.formed refl) in
         record {
           inside = i;

@@ -7,7 +7,7 @@ ghost use Rattle.rules.specs.Lookups.{bound_part, located_part};
 ghost use Rattle.rules.specs.Answers.{bound_place, located_place};
 ghost use Rattle.pool.specs.Parts.{StandsAt};
 
-use rules::{Bound, Located, Offset, Place};
+use rules::{Bound, Offset, Place, Refusal};
 
 const NO_PLACE: Place = Place {
     offset: Offset(0),
@@ -25,7 +25,7 @@ pub fn part<'p>(pool: &'p [u8], offset: Offset, length: u32) -> &'p [u8]
 }
 
 // The part of the pool that an answer for a URI stands for; empty for a built-in, for nothing and for a refusal.
-pub fn bound_part<'p>(pool: &'p [u8], found: Bound) -> &'p [u8]
+pub fn bound_part<'p>(pool: &'p [u8], found: Result<Option<Bound>, Refusal>) -> &'p [u8]
     ensures result_value { result.now ≡ bound_part pool.now found }
     ensures stands_at { StandsAt pool.entry (bound_place found).offset.0 result }
 {
@@ -34,7 +34,7 @@ pub fn bound_part<'p>(pool: &'p [u8], found: Bound) -> &'p [u8]
 }
 
 // The part of the pool that an answer for a prefix or for the default URI stands for; empty for nothing and for a refusal.
-pub fn located_part<'p>(pool: &'p [u8], found: Located) -> &'p [u8]
+pub fn located_part<'p>(pool: &'p [u8], found: Result<Option<Place>, Refusal>) -> &'p [u8]
     ensures result_value { result.now ≡ located_part pool.now found }
     ensures stands_at { StandsAt pool.entry (located_place found).offset.0 result }
 {
@@ -43,25 +43,25 @@ pub fn located_part<'p>(pool: &'p [u8], found: Located) -> &'p [u8]
 }
 
 // Where that part stands; where the pool starts if it is empty.
-fn bound_place(found: Bound) -> Place
+fn bound_place(found: Result<Option<Bound>, Refusal>) -> Place
     ensures { result ≡ bound_place found }
 {
     match found {
-        Bound::At(place) => place,
-        Bound::Xml => NO_PLACE,
-        Bound::Xmlns => NO_PLACE,
-        Bound::Nothing => NO_PLACE,
-        Bound::Refused(_) => NO_PLACE,
+        Ok(Some(Bound::At(place))) => place,
+        Ok(Some(Bound::Xml)) => NO_PLACE,
+        Ok(Some(Bound::Xmlns)) => NO_PLACE,
+        Ok(None) => NO_PLACE,
+        Err(_) => NO_PLACE,
     }
 }
 
-fn located_place(found: Located) -> Place
+fn located_place(found: Result<Option<Place>, Refusal>) -> Place
     ensures { result ≡ located_place found }
 {
     match found {
-        Located::At(place) => place,
-        Located::Nothing => NO_PLACE,
-        Located::Refused(_) => NO_PLACE,
+        Ok(Some(place)) => place,
+        Ok(None) => NO_PLACE, // nothing
+        Err(_) => NO_PLACE, // a refusal
     }
 }
 

@@ -20,28 +20,25 @@ pub fn prefix_of_uri(
     path: &[u32],
     uri: &[u8],
     number: NameId,
-) -> Bound
+) -> Option<Bound>
     requires { Started table.now notes.now path.now }
     ensures { (pool : List ℕ) → Meant table.now pool notes.now number.0 uri.now → result ≡ bound (or_unbound (prefix_of_uri (nodes table.now pool) uri.now path.now)) }
 {
-    let wanted = number.0;
-    if wanted == 0 {
-        return Bound::Nothing;
+    if number.0 == 0 {
+        return None;
     }
     let xml = built_ins::is_xml_uri(uri);
-    let mut left = path;
-    while left.len() > 0 {
-        let element = rows::row_at(left, 0);
-        if names_prefix(table, notes, path, element, NameId(wanted), xml) {
-            return Bound::At(rows::place(table, element, rules::PREFIX));
+    for element in path {
+        let element = Row(*element);
+        if names_prefix(table, notes, path, element, number, xml) {
+            return Some(Bound::At(rows::place(table, element, rules::PREFIX)));
         }
-        let own = own_giving(table, notes, path, element, NameId(wanted), xml);
+        let own = own_giving(table, notes, path, element, number, xml);
         if rows::has_row(table, own) {
-            return Bound::At(rows::place(table, own, rules::LOCAL_NAME));
+            return Some(Bound::At(rows::place(table, own, rules::LOCAL_NAME)));
         }
-        left = &left[1..];
     }
-    Bound::Nothing
+    None
 }
 
 // The element's own prefix answers for the URI. Here and below, xml says whether the URI is that of xml.

@@ -1,5 +1,6 @@
 -- What the check of a table leaves in the notes.
 -- Assumes nothing.
+use Rattle.std.specs.Prelude.{Result, Ok, ⊤}
 use Prim.Native.Nat.{ℕ, ◌*◌, ◌≤◌}
 use mathlib.Core.Path.{◌≡◌, sym, ◌∙◌}
 use mathlib.Core.List.{List}
@@ -7,7 +8,6 @@ use native.Mathlib.Omega.{arith}
 use lib.ListN.{length, replicate, length-replicate}
 use Rattle.rules.specs.Table.{MOST_ROWS, row_count}
 use Rattle.rules.specs.Refusals.{checked}
-use Rattle.rules.specs.declared.Checked.{Checked}
 use Rattle.rules.proofs.Accepted.{accepted, few-rows}
 use Rattle.notes.specs.Notes.{NOTES}
 use Rattle.dictionary.specs.Dictionary.{last_of, spelling}
@@ -15,6 +15,7 @@ use Rattle.row_checks.specs.Arrays.{dictionary_words, Named}
 use Rattle.checker.specs.Lent.{Lent}
 use Rattle.checker.proofs.Lending.{zeros-lent}
 use Rattle.name_pairs.specs.Noted.{Noted}
+use Rattle.rules.specs.declared.Refusal.{Refusal}
 
 -- New notes have room for the rows that they were made for.
 pub new-notes : (table : List ℕ) (most u : ℕ) → (row_count table ≤ MOST_ROWS → row_count table ≤ most) → row_count table ≤ MOST_ROWS → NOTES * row_count table ≤ length (replicate (NOTES * most) u)
@@ -31,7 +32,7 @@ lent table notes most small room =
 -- Notes in which the names have their numbers, by a dictionary that nobody needs any more.
 pub named-noted :
     (table pool before dictionary notes : List ℕ) → (row_count table ≤ MOST_ROWS → NOTES * row_count table ≤ length before) → length notes ≡ length before
-    → {answer : Checked} → answer ≡ checked table pool → (answer ≡ Checked.Accepted → Named table pool dictionary notes) → answer ≡ Checked.Accepted → Noted table pool notes
+    → {answer : Result ⊤ Refusal} → answer ≡ checked table pool → (answer ≡ Ok tt → Named table pool dictionary notes) → answer ≡ Ok tt → Noted table pool notes
 named-noted table pool before dictionary notes room size told named is =
     record {
       spelling = spelling dictionary pool;

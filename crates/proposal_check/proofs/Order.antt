@@ -1,5 +1,6 @@
 -- What a proposal is refused for, from what the parts answer.
 -- Assumes nothing.
+use Rattle.std.specs.Prelude.{Result, Ok, Err, ⊤}
 use Prim.Native.Nat.{ℕ, ◌≤◌, ◌<◌}
 use mathlib.Core.Path.{◌≡◌, refl, sym, ap, ◌∙◌}
 use mathlib.Core.Bool.{true, false}
@@ -10,23 +11,22 @@ use borrow.Author.Tests.{lt-leb}
 use lib.Dec.{leb}
 use lib.ListN.{length}
 use Rattle.rules.specs.Table.{Node, nodes, row_count}
-use Rattle.rules.specs.Answers.{number_of, check_number}
+use Rattle.rules.specs.Answers.{number_of}
 use Rattle.rules.specs.Refusals.{refused_if, first_refusal, verdict, bad_size, row_refusal, check_refusal, checked}
 use Rattle.rules.specs.Lookups.{lookup_refusal}
 use Rattle.rules.specs.declared.Refusal.{Refusal}
-use Rattle.rules.specs.declared.Checked.{Checked}
 use Rattle.rules.proofs.Table.{length-nodes}
 use Rattle.rules.proofs.Refusals.{all_none, verdict-accepted, verdict-refused, first_alone, first-append, first-refused, first-passed, none-lowest}
 use Rattle.refusal_numbers.specs.declared.Number.{Number}
-use Rattle.answers.specs.Given.{check_given}
+use Rattle.refusal_numbers.specs.Given.{refusal_given}
 use Rattle.proposals.specs.Proposals.{failed, level_refusal, changes_refusal, is_unresolved, unresolved_refusal, judged, proposal_refusal, proposal_checked}
 
 -- What the check of a table tells.
-pub accepted : (table pool : List ℕ) {answer : Checked} → answer ≡ checked table pool → answer ≡ Checked.Accepted → check_refusal table pool ≡ none
+pub accepted : (table pool : List ℕ) {answer : Result ⊤ Refusal} → answer ≡ checked table pool → answer ≡ Ok tt → check_refusal table pool ≡ none
 unfolding checked
 accepted table pool told is = verdict-accepted (check_refusal table pool) (sym told ∙ is)
 
-pub refused : (table pool : List ℕ) {answer : Checked} → answer ≡ checked table pool → (x : Refusal) → answer ≡ Checked.Refused x → check_refusal table pool ≡ some x
+pub refused : (table pool : List ℕ) {answer : Result ⊤ Refusal} → answer ≡ checked table pool → (x : Refusal) → answer ≡ Err x → check_refusal table pool ≡ some x
 unfolding checked
 refused table pool told x is = verdict-refused (check_refusal table pool) x (sym told ∙ is)
 
@@ -61,13 +61,13 @@ module _ (original pool proposal other : List ℕ) where
   ms = nodes proposal other
 
   -- 40.
-  pub original-fails : (x : Refusal) → check_refusal original pool ≡ some x → Checked.Refused (Refusal.Original (record { 0 = (number_of x).row }) (number_of x).word) ≡ proposal_checked original pool proposal other
+  pub original-fails : (x : Refusal) → check_refusal original pool ≡ some x → Err (Refusal.Original (record { 0 = (number_of x).row }) (number_of x).word) ≡ proposal_checked original pool proposal other
   unfolding proposal_checked proposal_refusal judged failed
   original-fails x e = rw e refl
 
   module _ (a : check_refusal original pool ≡ none) where
     -- 41.
-    pub proposal-fails : (x : Refusal) → check_refusal proposal other ≡ some x → Checked.Refused (Refusal.Proposal (record { 0 = (number_of x).row }) (number_of x).word) ≡ proposal_checked original pool proposal other
+    pub proposal-fails : (x : Refusal) → check_refusal proposal other ≡ some x → Err (Refusal.Proposal (record { 0 = (number_of x).row }) (number_of x).word) ≡ proposal_checked original pool proposal other
     unfolding proposal_checked proposal_refusal judged failed
     proposal-fails x e = rw (a, e) refl
 
@@ -79,13 +79,13 @@ module _ (original pool proposal other : List ℕ) where
       unfolding proposal_checked proposal_refusal judged failed
       later = rw (a, b) (ap verdict (first-append rows (unresolved_refusal ms ∷ [])))
 
-      module _ {answer : Checked} (told : answer ≡ verdict (first_refusal rows)) where
+      module _ {answer : Result ⊤ Refusal} (told : answer ≡ verdict (first_refusal rows)) where
         -- 42 and 43.
-        pub rows-refused : (x : Refusal) → answer ≡ Checked.Refused x → Checked.Refused x ≡ proposal_checked original pool proposal other
+        pub rows-refused : (x : Refusal) → answer ≡ Err x → Err x ≡ proposal_checked original pool proposal other
         rows-refused x is = sym is ∙ first-refused (first_refusal rows) (first_refusal (unresolved_refusal ms ∷ []) ∷ []) told x is ∙ sym later
 
         -- 44.
-        pub rows-passed : answer ≡ Checked.Accepted → {names : Checked} → names ≡ verdict (unresolved_refusal ms) → names ≡ proposal_checked original pool proposal other
+        pub rows-passed : answer ≡ Ok tt → {names : Result ⊤ Refusal} → names ≡ verdict (unresolved_refusal ms) → names ≡ proposal_checked original pool proposal other
         rows-passed is e =
             e
             ∙ ap verdict (first_alone (unresolved_refusal ms) ∙ first_alone (first_refusal (unresolved_refusal ms ∷ [])) ∙ sym (first-passed (first_refusal rows) (first_refusal (unresolved_refusal ms ∷ []) ∷ []) told is))
@@ -104,11 +104,9 @@ module _ (original pool proposal other : List ℕ) where
             last (some x) later e = refl
 
 -- 40 and 41 from the numbers of the check that failed.
-module _ (x : Refusal) {told : Number} (is : told ≡ check_given (Checked.Refused x)) where
-  pub original-told : Checked.Refused (Refusal.Original told.row told.word) ≡ Checked.Refused (Refusal.Original (record { 0 = (number_of x).row }) (number_of x).word)
-  unfolding check_number
-  original-told = ap (λ (n : Number). Checked.Refused (Refusal.Original n.row n.word)) is
+module _ (x : Refusal) {told : Number} (is : told ≡ refusal_given x) where
+  pub original-told : ◌≡◌ {A = Result ⊤ Refusal} (Err (Refusal.Original told.row told.word)) (Err (Refusal.Original (record { 0 = (number_of x).row }) (number_of x).word))
+  original-told = ap (λ (n : Number). Err (Refusal.Original n.row n.word)) is
 
-  pub proposal-told : Checked.Refused (Refusal.Proposal told.row told.word) ≡ Checked.Refused (Refusal.Proposal (record { 0 = (number_of x).row }) (number_of x).word)
-  unfolding check_number
-  proposal-told = ap (λ (n : Number). Checked.Refused (Refusal.Proposal n.row n.word)) is
+  pub proposal-told : ◌≡◌ {A = Result ⊤ Refusal} (Err (Refusal.Proposal told.row told.word)) (Err (Refusal.Proposal (record { 0 = (number_of x).row }) (number_of x).word))
+  proposal-told = ap (λ (n : Number). Err (Refusal.Proposal n.row n.word)) is

@@ -2,13 +2,12 @@
 // Nothing is written.
 #![tactic(auto)]
 
-ghost use Rattle.std.specs.Prelude.{◌≡◌, List, [], ◌∷◌, ℕ, ◌*◌, ◌≤◌, ◌<◌, length};
+ghost use Rattle.std.specs.Prelude.{◌≡◌, List, [], ◌∷◌, ℕ, ◌*◌, ◌≤◌, ◌<◌, length, Err};
 ghost use Rattle.std.proofs.Math.Option.{none};
 ghost use Rattle.rules.specs.Table.{MOST_ROWS, row_count, nodes};
 ghost use Rattle.rules.specs.Answers.{number_of};
 ghost use Rattle.rules.specs.Refusals.{verdict, check_refusal};
 ghost use Rattle.rules.specs.declared.Refusal.{Refusal};
-ghost use Rattle.rules.specs.declared.Checked.{Checked};
 ghost use Rattle.notes.specs.Notes.{NOTES};
 ghost use Rattle.table_size.specs.Small.{FEW_ROWS};
 ghost use Rattle.beginning.specs.Ground.{Ground};
@@ -16,8 +15,8 @@ ghost use Rattle.scope_preparation.specs.Arrays.{Cleared};
 ghost use Rattle.proposals.specs.Proposals.{unresolved_refusal, proposal_checked};
 ghost use Rattle.name_pairs.specs.Noted.{Noted};
 
-use beginning::Begun;
-use rules::{Checked, NameId, Refusal, Row};
+use refusal_numbers::Number;
+use rules::{NameId, Refusal, Row};
 
 pub mod row_numbers;
 
@@ -32,7 +31,7 @@ const TOPS: usize = stacks::TOPS * (3 * rules::MOST_ROWS + 1);
 
 // What a proposal for an original is refused for, or that it is accepted. The original is checked first; what stays of that are
 // the numbers of its names.
-pub fn check(original: &[u32], pool: &[u8], proposal: &[u32], other: &[u8]) -> Checked
+pub fn check(original: &[u32], pool: &[u8], proposal: &[u32], other: &[u8]) -> Result<(), Refusal>
     ensures { result ≡ proposal_checked original.now pool.now proposal.now other.now }
 {
     if rows::row_count(original) <= table_size::FEW_ROWS {
@@ -43,7 +42,7 @@ pub fn check(original: &[u32], pool: &[u8], proposal: &[u32], other: &[u8]) -> C
 }
 
 // The same for an original of few rows.
-fn check_small(original: &[u32], pool: &[u8], proposal: &[u32], other: &[u8]) -> Checked
+fn check_small(original: &[u32], pool: &[u8], proposal: &[u32], other: &[u8]) -> Result<(), Refusal>
     requires { row_count original.now ≤ FEW_ROWS }
     ensures { result ≡ proposal_checked original.now pool.now proposal.now other.now }
 {
@@ -58,13 +57,13 @@ fn check_original(
     mine: &mut [u16],
     proposal: &[u32],
     other: &[u8],
-) -> Checked
+) -> Result<(), Refusal>
     requires { row_count original.now ≤ MOST_ROWS → NOTES * row_count original.now ≤ length mine.old }
     ensures { result ≡ proposal_checked original.now pool.now proposal.now other.now }
 {
     match row_numbers::check(original, pool, mine) {
-        Checked::Accepted => check_proposal(original, pool, mine, proposal, other),
-        Checked::Refused(why) => refuse_original(why),
+        Ok(()) => check_proposal(original, pool, mine, proposal, other),
+        Err(why) => refuse_original(why),
     }
 }
 
@@ -75,7 +74,7 @@ pub fn check_proposal(
     mine: &[u16],
     proposal: &[u32],
     other: &[u8],
-) -> Checked
+) -> Result<(), Refusal>
     requires pool_value { check_refusal original.now pool.now ≡ none }
     requires noted { Noted original.now pool.now mine.now }
     ensures { result ≡ proposal_checked original.now pool.now proposal.now other.now }
@@ -87,7 +86,13 @@ pub fn check_proposal(
 }
 
 // The same of a proposal of many rows.
-fn check_any(original: &[u32], pool: &[u8], mine: &[u16], proposal: &[u32], other: &[u8]) -> Checked
+fn check_any(
+    original: &[u32],
+    pool: &[u8],
+    mine: &[u16],
+    proposal: &[u32],
+    other: &[u8],
+) -> Result<(), Refusal>
     requires pool_value { (check_refusal original.now pool.now ≡ none) × (0 < row_count proposal.now) }
     requires noted { Noted original.now pool.now mine.now }
     ensures { result ≡ proposal_checked original.now pool.now proposal.now other.now }
@@ -96,12 +101,12 @@ fn check_any(original: &[u32], pool: &[u8], mine: &[u16], proposal: &[u32], othe
     let mut tops = [0; TOPS];
     let mut path = [0; PATH];
     match beginning::begin(proposal, other, Row(0), b"xml", &mut notes) {
-        Begun::Asked(xml) => {
+        Ok(xml) => {
             check_asked(
                 original, pool, mine, proposal, other, xml, &mut notes, &mut tops, &mut path,
             )
         }
-        Begun::Refused(why) => refuse_proposal(why),
+        Err(why) => refuse_proposal(why),
     }
 }
 
@@ -112,7 +117,7 @@ pub fn check_few(
     mine: &[u16],
     proposal: &[u32],
     other: &[u8],
-) -> Checked
+) -> Result<(), Refusal>
     requires pool_value { (check_refusal original.now pool.now ≡ none) × (row_count proposal.now ≤ FEW_ROWS) }
     requires noted { Noted original.now pool.now mine.now }
     ensures { result ≡ proposal_checked original.now pool.now proposal.now other.now }
@@ -133,7 +138,7 @@ fn check_some(
     mine: &[u16],
     proposal: &[u32],
     other: &[u8],
-) -> Checked
+) -> Result<(), Refusal>
     requires pool_value { (check_refusal original.now pool.now ≡ none) × (row_count proposal.now ≤ FEW_ROWS) × (0 < row_count proposal.now) }
     requires noted { Noted original.now pool.now mine.now }
     ensures { result ≡ proposal_checked original.now pool.now proposal.now other.now }
@@ -141,13 +146,13 @@ fn check_some(
     let mut notes = [0; checker::SMALL_NOTES];
     let mut tops = [0; SMALL_TOPS];
     let mut path = [0; SMALL_PATH];
-    match beginning::begin_few(proposal, other, Row(0), b"xml", &mut notes) {
-        Begun::Asked(xml) => {
+    match beginning::begin(proposal, other, Row(0), b"xml", &mut notes) {
+        Ok(xml) => {
             check_asked(
                 original, pool, mine, proposal, other, xml, &mut notes, &mut tops, &mut path,
             )
         }
-        Begun::Refused(why) => refuse_proposal(why),
+        Err(why) => refuse_proposal(why),
     }
 }
 
@@ -162,17 +167,15 @@ fn check_asked(
     notes: &mut [u16],
     tops: &mut [u16],
     path: &mut [u16],
-) -> Checked
+) -> Result<(), Refusal>
     requires pool_value { check_refusal original.now pool.now ≡ none }
     requires noted { Noted original.now pool.now mine.now }
     requires grounded { Ground proposal.now other.now 0 notes.old xml.0 (120 ∷ 109 ∷ 108 ∷ []) }
     requires cleared { Cleared proposal.now tops.old path.old }
     ensures { result ≡ proposal_checked original.now pool.now proposal.now other.now }
 {
-    match proposal_rows::check(original, pool, mine, proposal, other, notes) {
-        Checked::Accepted => check_names(proposal, xml, notes, tops, path),
-        Checked::Refused(why) => Checked::Refused(why),
-    }
+    proposal_rows::check(original, pool, mine, proposal, other, notes)?;
+    check_names(proposal, xml, notes, tops, path)
 }
 
 // Refusal 44.
@@ -182,7 +185,7 @@ fn check_names(
     notes: &mut [u16],
     tops: &mut [u16],
     path: &mut [u16],
-) -> Checked
+) -> Result<(), Refusal>
     requires by_index { (pool : List ℕ) × Ground proposal.now pool 0 notes.old xml.0 (120 ∷ 109 ∷ 108 ∷ []) }
     requires cleared { Cleared proposal.now tops.old path.old }
     ensures { (pool : List ℕ) → Ground proposal.now pool 0 notes.old xml.0 (120 ∷ 109 ∷ 108 ∷ []) → result ≡ verdict (unresolved_refusal (nodes proposal.now pool)) }
@@ -192,24 +195,24 @@ fn check_names(
 }
 
 // Refusal 40, with the row and the word that the original's check names.
-pub fn refuse_original(why: Refusal) -> Checked
-    ensures { result ≡ Checked.Refused (Refusal.Original (record { 0 = (number_of why).row }) (number_of why).word) }
+pub fn refuse_original(why: Refusal) -> Result<(), Refusal>
+    ensures { result ≡ Err (Refusal.Original (record { 0 = (number_of why).row }) (number_of why).word) }
 {
-    let told = answers::check_number(Checked::Refused(why));
+    let told = Number::from(why);
     let row = told.row;
-    Checked::Refused(Refusal::Original {
+    Err(Refusal::Original {
         row,
         word: told.word,
     })
 }
 
 // Refusal 41, with those that the proposal's names.
-pub fn refuse_proposal(why: Refusal) -> Checked
-    ensures { result ≡ Checked.Refused (Refusal.Proposal (record { 0 = (number_of why).row }) (number_of why).word) }
+pub fn refuse_proposal(why: Refusal) -> Result<(), Refusal>
+    ensures { result ≡ Err (Refusal.Proposal (record { 0 = (number_of why).row }) (number_of why).word) }
 {
-    let told = answers::check_number(Checked::Refused(why));
+    let told = Number::from(why);
     let row = told.row;
-    Checked::Refused(Refusal::Proposal {
+    Err(Refusal::Proposal {
         row,
         word: told.word,
     })

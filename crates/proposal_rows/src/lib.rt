@@ -8,7 +8,7 @@ ghost use Rattle.rules.specs.Refusals.{first_refusal, verdict, check_refusal};
 ghost use Rattle.proposals.specs.Proposals.{level_refusal, changes_refusal};
 ghost use Rattle.name_pairs.specs.Noted.{Noted};
 
-use rules::{Checked, Refusal, Row};
+use rules::{Refusal, Row};
 
 // Refusal 42, of the original and then of the proposal, and then 43. A proposal that keeps the rows of an original without rows
 // of DOM Level 1, and adds nothing but declarations, has none either: so 43 is looked for first, and 42 only before a refusal.
@@ -19,50 +19,45 @@ pub fn check(
     proposal: &[u32],
     other: &[u8],
     theirs: &[u16],
-) -> Checked
+) -> Result<(), Refusal>
     requires pool_value { (check_refusal original.now pool.now ≡ none) × (check_refusal proposal.now other.now ≡ none) }
     requires noted { (Noted original.now pool.now mine.now) × (Noted proposal.now other.now theirs.now) }
     ensures { result ≡ verdict (first_refusal (level_refusal (nodes original.now pool.now) ∷ level_refusal (nodes proposal.now other.now) ∷ changes_refusal (nodes original.now pool.now) (nodes proposal.now other.now) ∷ [])) }
 {
     match kept_rows::check(original, pool, mine, proposal, other, theirs) {
-        Checked::Accepted => Checked::Accepted,
-        Checked::Refused(why) => check_both(original, proposal, why),
+        Ok(()) => Ok(()),
+        Err(why) => check_both(original, proposal, why),
     }
 }
 
 // Refusal 42, of the original and then of the proposal, before another one.
-fn check_both(original: &[u32], proposal: &[u32], why: Refusal) -> Checked
+fn check_both(original: &[u32], proposal: &[u32], why: Refusal) -> Result<(), Refusal>
     requires { (row_count original.now ≤ MOST_ROWS) × (row_count proposal.now ≤ MOST_ROWS) }
     ensures { (pool other : List ℕ) → result ≡ verdict (first_refusal (level_refusal (nodes original.now pool) ∷ level_refusal (nodes proposal.now other) ∷ some why ∷ [])) }
 {
-    match check_levels(original) {
-        Checked::Accepted => check_changed(proposal, why),
-        Checked::Refused(earlier) => Checked::Refused(earlier),
-    }
+    check_levels(original)?;
+    check_changed(proposal, why)
 }
 
 // Refusal 42 of a proposal, before another one that it draws.
-fn check_changed(proposal: &[u32], why: Refusal) -> Checked
+fn check_changed(proposal: &[u32], why: Refusal) -> Result<(), Refusal>
     requires { row_count proposal.now ≤ MOST_ROWS }
     ensures { (pool : List ℕ) → result ≡ verdict (first_refusal (level_refusal (nodes proposal.now pool) ∷ some why ∷ [])) }
 {
-    match check_levels(proposal) {
-        Checked::Accepted => Checked::Refused(why),
-        Checked::Refused(earlier) => Checked::Refused(earlier),
-    }
+    check_levels(proposal)?;
+    Err(why)
 }
 
 // Refusal 42, for the lowest row of DOM Level 1.
-fn check_levels(table: &[u32]) -> Checked
+fn check_levels(table: &[u32]) -> Result<(), Refusal>
     requires { row_count table.now ≤ MOST_ROWS }
     ensures { (pool : List ℕ) → result ≡ verdict (level_refusal (nodes table.now pool)) }
 {
-    let mut r: u32 = 0;
-    while rows::has_row(table, Row(r)) {
+    let rows = rows::row_count(table) as u32;
+    for r in 0..rows {
         if rows::is_level1(rows::kind(table, Row(r))) {
-            return Checked::Refused(Refusal::ProposalLevel1(Row(r)));
+            return Err(Refusal::ProposalLevel1(Row(r)));
         }
-        r += 1;
     }
-    Checked::Accepted
+    Ok(())
 }

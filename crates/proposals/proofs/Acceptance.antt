@@ -1,5 +1,6 @@
 -- What acceptance gives: demand 3's first part, that nothing but declarations is added, and that normalization changes nothing.
 -- Assumes nothing.
+use Rattle.std.specs.Prelude.{Ok}
 use Prim.Native.Nat.{ℕ, zero, suc, ◌/◌, ◌≤◌, ◌<◌}
 use mathlib.Core.Path.{◌≡◌, refl, sym, ap, ◌∙◌}
 use mathlib.Core.Bool.{Bool, true, false}
@@ -17,7 +18,6 @@ use Rattle.rules.specs.Normalization.{State, repair_element, repair_of, keep, is
 use Rattle.rules.specs.Demands.{element_means, attribute_means_in, attribute_means, means, is_bound, KeepsMeaning}
 use Rattle.rules.specs.declared.Row.{Row}
 use Rattle.rules.specs.declared.Refusal.{Refusal}
-use Rattle.rules.specs.declared.Checked.{Checked}
 use Rattle.rules.proofs.Lists.{by_cases, both_true, T_true, true-T, right-false, not-false, same_bytes-equal}
 use Rattle.rules.proofs.Refusals.{not-refused, all_none, verdict-accepted, none-lowest, lowest-none}
 use Rattle.rules.proofs.Table.{length-nodes}
@@ -67,7 +67,7 @@ levels-kept ns ms level2 unchanged =
         let further = right-false (leb (length ns) r) _ (none_below (is_foreign ns ms) Refusal.Changed (length ms) both.1.0 r i) (le-leb (length ns) r past) in
         ap is_level1 (eqb-true (node ms r).type DECLARATION (not-false (eqb (node ms r).type DECLARATION) further)))
 
-pub good : (table pool table' pool' : List ℕ) → proposal_checked table pool table' pool' ≡ Checked.Accepted → Good table pool table' pool'
+pub good : (table pool table' pool' : List ℕ) → proposal_checked table pool table' pool' ≡ Ok tt → Good table pool table' pool'
 unfolding proposal_checked proposal_refusal judged
 good table pool table' pool' e =
     let ns = nodes table pool in

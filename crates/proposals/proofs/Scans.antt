@@ -1,5 +1,6 @@
 -- Going through the rows for the lowest one that meets a test.
 -- Assumes nothing.
+use Rattle.std.specs.Prelude.{Ok, Err}
 use Prim.Native.Nat.{ℕ, zero, suc, ◌+◌, ◌≤◌, ◌<◌}
 use mathlib.Core.Path.{◌≡◌, refl, sym, ap, ◌∙◌, subst}
 use mathlib.Core.Bool.{Bool, true, false}
@@ -11,7 +12,6 @@ use borrow.Author.Tests.{ltb-true, ltb-false}
 use Rattle.rules.specs.Refusals.{refused_if, verdict}
 use Rattle.rules.specs.declared.Row.{Row}
 use Rattle.rules.specs.declared.Refusal.{Refusal}
-use Rattle.rules.specs.declared.Checked.{Checked}
 use Rattle.rules.proofs.Lists.{by_cases}
 use Rattle.rules.proofs.Refusals.{refusal_from, from_start, from-refused, from_next, from_end}
 use Rattle.proposals.specs.Proposals.{lowest}
@@ -29,13 +29,13 @@ module _ (test : ℕ → Bool) (refusal : Row → Refusal) (count : ℕ) where
 
   module _ (r : ℕ) (scanning : Scanning r) where
     module _ (inside : r < count) (is : Bool) (told : is ≡ test r) where
-      pub scan-found : is ≡ true → verdict (lowest test refusal count) ≡ Checked.Refused (refusal (record { 0 = r }))
+      pub scan-found : is ≡ true → verdict (lowest test refusal count) ≡ Err (refusal (record { 0 = r }))
       scan-found e = ap verdict (scanning ∙ from-refused drawn count r inside (refusal (record { 0 = r })) (rw (sym told ∙ e) refl))
 
       pub scan-next : is ≡ false → Scanning (r + 1)
       scan-next e = scanning ∙ from_next drawn count r inside (rw (sym told ∙ e) refl)
 
-    pub scan-end : count ≤ r → verdict (lowest test refusal count) ≡ Checked.Accepted
+    pub scan-end : count ≤ r → verdict (lowest test refusal count) ≡ Ok tt
     scan-end past = ap verdict (scanning ∙ from_end drawn count r past)
 
   -- Rows that do not meet the test are passed over.

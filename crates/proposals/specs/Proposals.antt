@@ -1,5 +1,5 @@
 -- RULES 13, proposals (Q-8): a table and a pool that a planner, who is not trusted, proposes for an original.
-use Rattle.std.specs.Prelude.{ℕ, Bool, ◌&&◌, ◌||◌, not, List, [], ◌∷◌, length, eqb, ltb, leb}
+use Rattle.std.specs.Prelude.{ℕ, Bool, ◌&&◌, ◌||◌, not, List, [], ◌∷◌, length, eqb, ltb, leb, Result, ⊤}
 use Rattle.std.proofs.Math.Option.{Option, none, some}
 use Rattle.rules.specs.Lists.{same_bytes}
 use Rattle.rules.specs.Table.{NONE, ATTRIBUTE, DECLARATION, Node, nodes, node, is_level1}
@@ -8,7 +8,6 @@ use Rattle.rules.specs.Refusals.{refused_if, first_refusal, lowest_refusal, verd
 use Rattle.rules.specs.Demands.{means, is_bound}
 use Rattle.rules.specs.declared.Row.{Row}
 use Rattle.rules.specs.declared.Refusal.{Refusal}
-use Rattle.rules.specs.declared.Checked.{Checked}
 use Rattle.bundles.specs.Bundles.{bundle_refusal, bundle_table, bundle_pool}
 
 -- 40, 41: a check that failed, told by its row and word.
@@ -83,7 +82,7 @@ proposal_refusal table pool table' pool' =
     judged (check_refusal table pool) (nodes table pool) (check_refusal table' pool') (nodes table' pool')
 
 -- The operation: an original, a table and its pool, and a proposal, a table and its pool.
-unfoldable pub proposal_checked : List ℕ → List ℕ → List ℕ → List ℕ → Checked
+unfoldable pub proposal_checked : List ℕ → List ℕ → List ℕ → List ℕ → Result ⊤ Refusal
 proposal_checked table pool table' pool' = verdict (proposal_refusal table pool table' pool')
 
 -- Over bundle bytes: what the check of a bundle draws, 30 to 32 among it, makes it fail.
@@ -93,6 +92,6 @@ bundle_check_refusal bytes = first_refusal (bundle_refusal bytes ∷ check_refus
 abbrev pub rows_of : List ℕ → List Node
 rows_of bytes = nodes (bundle_table bytes) (bundle_pool bytes)
 
-unfoldable pub bundle_proposal_checked : List ℕ → List ℕ → Checked
+unfoldable pub bundle_proposal_checked : List ℕ → List ℕ → Result ⊤ Refusal
 bundle_proposal_checked original proposal =
     verdict (judged (bundle_check_refusal original) (rows_of original) (bundle_check_refusal proposal) (rows_of proposal))

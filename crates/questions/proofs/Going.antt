@@ -1,5 +1,6 @@
 -- The answer of a lookup that has begun.
 -- Assumes nothing.
+use Rattle.std.specs.Prelude.{None, Result, Ok, Err}
 use Prim.Native.Nat.{ℕ, zero, suc, ◌*◌, ◌≤◌, ◌<◌}
 use native.Mathlib.Nat.{not-suc-le-zero}
 use native.Mathlib.Omega.{arith}
@@ -13,11 +14,9 @@ use Rattle.rules.specs.Lookups.{Binding, unbound, or_unbound, uri_of_prefix, pre
 use Rattle.rules.specs.declared.Refusal.{Refusal}
 use Rattle.rules.specs.declared.NameId.{NameId}
 use Rattle.rules.specs.declared.Question.{Question}
-use Rattle.rules.specs.declared.Bound.{Bound}
 use Rattle.rules.proofs.Lists.{by_cases}
 use Rattle.notes.specs.Notes.{NOTES}
 use Rattle.beginning.specs.Ground.{Blank, Begins}
-use Rattle.beginning.specs.declared.Begun.{Begun}
 use Rattle.questions.specs.Lent.{Way}
 
 -- Zeros are notes to lend.
@@ -28,8 +27,8 @@ notes-lent table most few =
 
 -- Where a lookup has begun, any array of places is a path.
 pub way :
-    (table pool : List ℕ) (r : ℕ) (notes query : List ℕ) (begun : Begun) (most : ℕ) → (row_count table ≤ MOST_ROWS → row_count table ≤ most) → Begins table pool r notes query begun
-    → (number : NameId) → begun ≡ Begun.Asked number → Way table r notes (replicate most NONE)
+    (table pool : List ℕ) (r : ℕ) (notes query : List ℕ) (begun : Result NameId Refusal) (most : ℕ) → (row_count table ≤ MOST_ROWS → row_count table ≤ most) → Begins table pool r notes query begun
+    → (number : NameId) → begun ≡ Ok number → Way table r notes (replicate most NONE)
 way table pool r notes query begun most few begins number asked =
     let ground = begins.0 number asked in
     let places = length-replicate {A = ℕ} most NONE in
@@ -74,15 +73,15 @@ found_nowhere Question.InScopePrefix ns query = refl
 
 -- The answers: refused, along the elements outward, and along none.
 module _ (question : Question) (table pool : List ℕ) (r : ℕ) (query : List ℕ) where
-  pub refused : (x : Refusal) → lookup_refusal table pool r ≡ some x → Bound.Refused x ≡ lookup_at question table pool r query
+  pub refused : (x : Refusal) → lookup_refusal table pool r ≡ some x → Err x ≡ lookup_at question table pool r query
   unfolding lookup_at
   refused x is = rw is refl
 
   module _ (unrefused : lookup_refusal table pool r ≡ none) where
-    pub found : (path : List ℕ) → path ≡ lookup_elements (nodes table pool) r → bound (findings question (nodes table pool) query path) ≡ lookup_at question table pool r query
+    pub found : (path : List ℕ) → path ≡ lookup_elements (nodes table pool) r → Ok (bound (findings question (nodes table pool) query path)) ≡ lookup_at question table pool r query
     unfolding lookup_at
     found path elements = rw (unrefused, elements) refl
 
-    pub nothing : (path : List ℕ) (n : ℕ) → take n path ≡ lookup_elements (nodes table pool) r → n ≡ 0 → Bound.Nothing ≡ lookup_at question table pool r query
+    pub nothing : (path : List ℕ) (n : ℕ) → take n path ≡ lookup_elements (nodes table pool) r → n ≡ 0 → (Ok None) ≡ lookup_at question table pool r query
     nothing path n elements over =
-        sym (ap bound (found_nowhere question (nodes table pool) query)) ∙ found [] (sym (ap (λ k. take k path) over) ∙ elements)
+        sym (ap (λ (b : Binding). Ok (bound b)) (found_nowhere question (nodes table pool) query)) ∙ found [] (sym (ap (λ k. take k path) over) ∙ elements)

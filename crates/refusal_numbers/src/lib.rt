@@ -2,7 +2,7 @@
 #![tactic(auto)]
 
 ghost use Rattle.std.specs.Prelude.{◌≡◌};
-ghost use Rattle.refusal_numbers.specs.Given.{refusal_given};
+ghost use Rattle.refusal_numbers.specs.Given.{refusal_given, check_given};
 
 use rules::{Refusal, Row};
 
@@ -16,39 +16,60 @@ pub struct Number {
     pub word: u32,
 }
 
+// The numbers of an operation that refuses nothing.
+pub const NOT_REFUSED: Number = Number {
+    number: 0,
+    row: Row(0),
+    word: 0,
+};
+
 // The numbers of a refusal.
-pub fn number_of(refusal: Refusal) -> Number
-    ensures { result ≡ refusal_given refusal }
-{
-    match refusal {
-        Refusal::Size => Number::new(1, Row(0), 0),
-        Refusal::Structure(row) => Number::new(2, row, 0),
-        Refusal::PastPool { row, word } => Number::new(3, row, word),
-        Refusal::Names(row) => Number::new(4, row, 0),
-        Refusal::Namespace(row) => Number::new(5, row, 0),
-        Refusal::Declaration(row) => Number::new(6, row, 0),
-        Refusal::Double(row) => Number::new(7, row, 0),
-        Refusal::NoSuchRow => Number::new(8, Row(0), 0),
-        Refusal::Level1(row) => Number::new(9, row, 0),
-        Refusal::RowRoom => Number::new(10, Row(0), 0),
-        Refusal::PoolRoom => Number::new(11, Row(0), 0),
-        Refusal::OffsetWithoutLength { row, word } => Number::new(12, row, word),
-        Refusal::MustBeEmpty { row, word } => Number::new(13, row, word),
-        Refusal::MalformedUtf8 { row, word } => Number::new(14, row, word),
-        Refusal::NotMarkup(row) => Number::new(20, row, 0),
-        Refusal::Character(row) => Number::new(21, row, 0),
-        Refusal::TextRoom => Number::new(22, Row(0), 0),
-        Refusal::Undeclared(row) => Number::new(23, row, 0),
-        Refusal::Inherited(row) => Number::new(24, row, 0),
-        Refusal::Mark => Number::new(30, Row(0), 0),
-        Refusal::Version => Number::new(31, Row(0), 0),
-        Refusal::Lengths => Number::new(32, Row(0), 0),
-        Refusal::BundleRoom => Number::new(33, Row(0), 0),
-        Refusal::Original { row, word } => Number::new(40, row, word),
-        Refusal::Proposal { row, word } => Number::new(41, row, word),
-        Refusal::ProposalLevel1(row) => Number::new(42, row, 0),
-        Refusal::Changed(row) => Number::new(43, row, 0),
-        Refusal::Unresolved(row) => Number::new(44, row, 0),
+impl From<Refusal> for Number {
+    ghost from_gives = { λ refusal number. number ≡ refusal_given refusal };
+
+    fn from(refusal: Refusal) -> Number {
+        match refusal {
+            Refusal::Size => Number::new(1, Row(0), 0),
+            Refusal::Structure(row) => Number::new(2, row, 0),
+            Refusal::PastPool { row, word } => Number::new(3, row, word),
+            Refusal::Names(row) => Number::new(4, row, 0),
+            Refusal::Namespace(row) => Number::new(5, row, 0),
+            Refusal::Declaration(row) => Number::new(6, row, 0),
+            Refusal::Double(row) => Number::new(7, row, 0),
+            Refusal::NoSuchRow => Number::new(8, Row(0), 0),
+            Refusal::Level1(row) => Number::new(9, row, 0),
+            Refusal::RowRoom => Number::new(10, Row(0), 0),
+            Refusal::PoolRoom => Number::new(11, Row(0), 0),
+            Refusal::OffsetWithoutLength { row, word } => Number::new(12, row, word),
+            Refusal::MustBeEmpty { row, word } => Number::new(13, row, word),
+            Refusal::MalformedUtf8 { row, word } => Number::new(14, row, word),
+            Refusal::NotMarkup(row) => Number::new(20, row, 0),
+            Refusal::Character(row) => Number::new(21, row, 0),
+            Refusal::TextRoom => Number::new(22, Row(0), 0),
+            Refusal::Undeclared(row) => Number::new(23, row, 0),
+            Refusal::Inherited(row) => Number::new(24, row, 0),
+            Refusal::Mark => Number::new(30, Row(0), 0),
+            Refusal::Version => Number::new(31, Row(0), 0),
+            Refusal::Lengths => Number::new(32, Row(0), 0),
+            Refusal::BundleRoom => Number::new(33, Row(0), 0),
+            Refusal::Original { row, word } => Number::new(40, row, word),
+            Refusal::Proposal { row, word } => Number::new(41, row, word),
+            Refusal::ProposalLevel1(row) => Number::new(42, row, 0),
+            Refusal::Changed(row) => Number::new(43, row, 0),
+            Refusal::Unresolved(row) => Number::new(44, row, 0),
+        }
+    }
+}
+
+// The numbers of what a check answers: 0 where nothing is refused.
+impl From<Result<(), Refusal>> for Number {
+    ghost from_gives = { λ answer number. number ≡ check_given answer };
+
+    fn from(answer: Result<(), Refusal>) -> Number {
+        match answer {
+            Ok(()) => NOT_REFUSED,
+            Err(refusal) => Number::from(refusal),
+        }
     }
 }
 

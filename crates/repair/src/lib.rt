@@ -3,7 +3,7 @@
 // path of scopes, which stands at the element. What is in scope is asked by the numbers of names.
 #![tactic(auto)]
 
-ghost use Rattle.std.specs.Prelude.{◌≡◌, false, List, ℕ, ◌+◌, ◌≤◌, ◌<◌, max, length};
+ghost use Rattle.std.specs.Prelude.{◌≡◌, false, List, ℕ, ◌+◌, ◌≤◌, ◌<◌, length};
 ghost use Rattle.rules.specs.Normalization.{repair_attribute};
 ghost use Rattle.free_prefixes.specs.Free.{is_free};
 ghost use Rattle.working.specs.Working.{AtElement, AtAttribute, AtUnserved, After, AfterAttribute, element_step};
@@ -147,18 +147,8 @@ fn number_attribute(
     Sizes {
         rows: rows + 1,
         bytes,
-        names: larger(names, number.0),
+        names: names.max(number.0),
         free: k,
         limit: sizes.limit,
     }
-}
-
-// The larger of two numbers.
-fn larger(a: u16, b: u16) -> u16
-    ensures { result ≡ max a b }
-{
-    if a < b {
-        return b;
-    }
-    a
 }

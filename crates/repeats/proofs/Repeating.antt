@@ -6,8 +6,9 @@ use mathlib.Core.Bool.{true, ◌&&◌}
 use mathlib.Core.List.{List}
 use native.Mathlib.Nat.{div-add-mod', zero-mul, suc-mul}
 use native.Mathlib.Omega.{arith}
-use borrow.Author.Tests.{eqb-true, eqb-false, ltb-true, leb-true}
-use lib.Dec.{eqb, ltb, leb}
+use borrow.Author.Tests.{ltb-true, ltb-false, leb-true}
+use lib.Dec.{ltb, leb}
+use Rattle.std.proofs.lemmas.List.{take_rest}
 use lib.ListN.{length, get_or, set, take, drop, length-drop}
 use lib.Seq.{length-take-le, set-get_or, get_or-take, get_or-drop, ext_get_or}
 use Rattle.rules.specs.Lists.{same_bytes}
@@ -38,6 +39,10 @@ same-repeats pool start size step same i h =
     let equal : part pool start size ≡ part pool (start + step) size = same_bytes-equal (part pool start size) (part pool (start + step) size) (rw (a, b) at same) in
     sym (part-byte pool start size i h) ∙ ap (λ (l : List ℕ). get_or l i 0) equal ∙ part-byte pool (start + step) size i h
 
+-- A byte of what is left behind a place.
+behind : (pool : List ℕ) (at i : ℕ) → get_or (take (length pool - at) (drop at pool)) i 0 ≡ get_or pool (at + i) 0
+behind pool at i = rw take_rest (get_or-drop at pool i 0)
+
 module _ (pool : List ℕ) (start size step : ℕ) (r : Repeats pool start size step) where
   -- A byte of it stands once more, a step further on.
   again : (x : ℕ) → start ≤ x → x < start + size → get_or pool x 0 ≡ get_or pool (x + step) 0
@@ -66,15 +71,23 @@ module _ (pool : List ℕ) (start size step : ℕ) (r : Repeats pool start size 
       let at : c + i + q * step ≡ offset + i = omega arith in
       steps q (c + i) (omega arith) (omega arith) ∙ ap (λ (k : ℕ). get_or pool k 0) at)
 
-  -- It grows by the byte behind it.
-  pub repeats-more : get_or pool (start + size) 0 ≡ get_or pool (start + step + size) 0 → Repeats pool start (size + 1) step
-  repeats-more same i h =
-      by_cases (eqb i size)
-      (λ t. rw (eqb-true i size t) same)
-      (λ t. let d = eqb-false i size t in r i (omega arith))
-
-  pub repeats-start : Repeats pool start (size + (start - start)) step
-  repeats-start i h = r i (omega arith)
+  -- It grows by what the parts behind have in common.
+  pub repeats-more :
+      (more : ℕ)
+      → ((i : ℕ) → i < more → get_or (take (length pool - (start + size)) (drop (start + size) pool)) i 0 ≡ get_or (take (length pool - (start + step + size)) (drop (start + step + size) pool)) i 0)
+      → Repeats pool start (size + more) step
+  repeats-more more same i less =
+      by_cases (ltb i size)
+      (λ t. r i (ltb-true i size t))
+      (λ t.
+      let j = i - size in
+      let low : size ≤ i = ltb-false i size t in
+      let first : start + size + j ≡ start + i = omega arith in
+      let second : start + step + size + j ≡ start + step + i = omega arith in
+      let alike = same j (omega arith) in
+      let byte = behind pool (start + size) j in
+      let other = behind pool (start + step + size) j in
+      ap (λ (n : ℕ). get_or pool n 0) (sym first) ∙ sym byte ∙ alike ∙ other ∙ ap (λ (n : ℕ). get_or pool n 0) second)
 
 -- It grows by the byte before it.
 pub repeats-before :

@@ -3,7 +3,7 @@
 // stretch it is, nothing but time depends on.
 #![tactic(auto)]
 
-ghost use Rattle.std.specs.Prelude.{◌≡◌, true, ◌+◌, ◌-◌, ◌≤◌, ◌<◌, length};
+ghost use Rattle.std.specs.Prelude.{◌≡◌, true, ℕ, ◌+◌, ◌-◌, ◌≤◌, ◌<◌, length, get_or};
 ghost use Rattle.rules.specs.Table.{MOST_BYTES};
 ghost use Rattle.packed_index.specs.Index.{ENTRIES, Repeats};
 ghost use Rattle.repeats.specs.Stretch.{Holds, First, Learned};
@@ -76,15 +76,13 @@ fn guess(index: &[u16], place: Place, mark: u16) -> Reach
     let mut start = known.start;
     let mut end = known.end;
     let mut step = known.step;
-    let mut k = 0;
-    while k < RECENT {
+    for k in 0..RECENT {
         if packed_index::seen(index, k, 2) == mark {
             let other = wide(packed_index::seen(index, k, 0)) as usize;
             start = least(start, other);
             end = most(end, other + length);
             step = divisor(step, most(own, other) - least(own, other));
         }
-        k += 1;
     }
     Reach { start, end, step }
 }
@@ -189,14 +187,18 @@ fn grown(pool: &[u8], start: usize, least: usize, step: usize) -> usize
     requires { (start + step + least ≤ length pool.now) × Repeats pool.now start least step }
     ensures { (start + step + result ≤ length pool.now) × Repeats pool.now start result step }
 {
-    let mut size = least;
-    while start + step + size < pool.len() {
-        if pool[start + size] != pool[start + step + size] {
-            return size;
-        }
-        size += 1;
-    }
-    size
+    least + common_length(&pool[start + least..], &pool[start + step + least..])
+}
+
+// How many bytes two parts have in common, from the start of both on.
+fn common_length(part: &[u8], other: &[u8]) -> usize
+    ensures within { (result ≤ length part.now) × (result ≤ length other.now) }
+    ensures same { (i : ℕ) → i < result → get_or part.now i 0 ≡ get_or other.now i 0 }
+{
+    part.iter()
+        .zip(other)
+        .take_while(|(byte, again)| byte == again)
+        .count()
 }
 
 // From where on the bytes up to the end of a stretch stand once more, if those of the stretch do.
@@ -204,12 +206,10 @@ fn grown_back(pool: &[u8], last: usize, size: usize, step: usize) -> usize
     requires { (last + step + size ≤ length pool.now) × Repeats pool.now last size step }
     ensures { (result ≤ last) × Repeats pool.now result (size + (last - result)) step }
 {
-    let mut start = last;
-    while start > 0 {
-        if pool[start - 1] != pool[start - 1 + step] {
-            return start;
+    for start in (0..last).rev() {
+        if pool[start] != pool[start + step] {
+            return start + 1;
         }
-        start -= 1;
     }
-    start
+    0
 }

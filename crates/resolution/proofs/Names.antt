@@ -61,10 +61,7 @@ module _ {table pool notes tops path : List ℕ} (w : Walkable table pool notes 
       (λ u. rw (type-word table pool r below, parent-word table pool r below, t, u) refl))
 
 -- The loop has come to row r.
-pub record Resolving (table notes tops₀ path₀ known₀ tops path known : List ℕ) (position r : ℕ) : Type 0 where
-  pub tops_length : length tops ≡ length tops₀
-  pub path_length : length path ≡ length path₀
-  pub known_length : length known ≡ length known₀
+pub record Resolving (table notes tops₀ path₀ tops path known : List ℕ) (position r : ℕ) : Type 0 where
   pub xml : under_at path NUMBERED 0 ≡ under_at path₀ NUMBERED 0
   pub standing : Standing table notes tops path position
   pub low : position ≤ row_count table

@@ -13,7 +13,7 @@ ghost use Rattle.unsettled.specs.Walkable.{Walkable};
 ghost use Rattle.proposals.specs.Proposals.{is_unresolved, unresolved_refusal};
 ghost use Rattle.resolution.specs.Known.{Known};
 
-use rules::{Checked, Position, Refusal, Row};
+use rules::{Position, Refusal, Row};
 
 // What one row gave: where the arrays stand then, and whether its name is not resolved.
 #[derive(Clone, Copy)]
@@ -23,7 +23,12 @@ struct Resolved {
 }
 
 // Refusal 44, for the lowest element or owned attribute that does not mean its URI in scope. The arrays stand at no row.
-pub fn check(table: &[u32], notes: &[u16], tops: &mut [u16], path: &mut [u16]) -> Checked
+pub fn check(
+    table: &[u32],
+    notes: &[u16],
+    tops: &mut [u16],
+    path: &mut [u16],
+) -> Result<(), Refusal>
     requires by_index { (pool : List ℕ) × Walkable table.now pool notes.now tops.old path.old }
     requires standing { Standing table.now notes.now tops.old path.old 0 }
     ensures { (pool : List ℕ) → Walkable table.now pool notes.now tops.old path.old → result ≡ verdict (unresolved_refusal (nodes table.now pool)) }
@@ -39,23 +44,22 @@ fn check_in(
     tops: &mut [u16],
     path: &mut [u16],
     known: &mut [u16],
-) -> Checked
+) -> Result<(), Refusal>
     requires by_index { (pool : List ℕ) × Walkable table.now pool notes.now tops.old path.old }
     requires standing { Standing table.now notes.now tops.old path.old 0 }
     requires known { Known table.now notes.now known.old (length tops.old) (length path.old) (under_at path.old NUMBERED 0) }
     ensures { (pool : List ℕ) → Walkable table.now pool notes.now tops.old path.old → result ≡ verdict (unresolved_refusal (nodes table.now pool)) }
 {
     let mut position: u16 = 0;
-    let mut r: u32 = 0;
-    while rows::has_row(table, Row(r)) {
+    let rows = rows::row_count(table) as u32;
+    for r in 0..rows {
         let resolved = resolve(table, notes, tops, path, known, Row(r), Position(position));
         if resolved.unresolved {
-            return Checked::Refused(Refusal::Unresolved(Row(r)));
+            return Err(Refusal::Unresolved(Row(r)));
         }
         position = resolved.position.0;
-        r += 1;
     }
-    Checked::Accepted
+    Ok(())
 }
 
 // Whether the row is an element or an owned attribute that does not mean its URI in scope. The arrays stand at a position.

@@ -1,5 +1,6 @@
 -- The pass over the rows: one row is judged, or many are passed at one look each, and what is left at the end.
 -- Assumes nothing.
+use Rattle.std.specs.Prelude.{Result, Ok, Err, ⊤}
 use Prim.Native.Nat.{ℕ, zero, suc, ◌+◌, ◌-◌, ◌≤◌, ◌<◌}
 use mathlib.Core.Path.{◌≡◌, refl, sym, ap, ◌∙◌}
 use mathlib.Core.Bool.{Bool, true, false, cond, ◌&&◌, not}
@@ -15,8 +16,6 @@ use Rattle.rules.specs.Table.{MOST_ROWS, Node, node_at, nodes, row_count}
 use Rattle.rules.specs.Answers.{check_number}
 use Rattle.rules.specs.Refusals.{first_refusal, lowest_refusal, faults, conflicts, row_refusal, verdict}
 use Rattle.rules.specs.declared.Refusal.{Refusal}
-use Rattle.rules.specs.declared.Checked.{Checked}
-use Rattle.rules.specs.declared.Salvaged.{Salvaged}
 use Rattle.rules.proofs.Lists.{by_cases, true-not-false}
 use Rattle.rules.proofs.Refusals.{verdict-accepted, verdict-refused, first_alone, first-append, none-lowest, from_start, from-refused}
 use Rattle.notes.specs.Notes.{NOTES, LATEST, note_at}
@@ -91,7 +90,7 @@ module _ (table pool : List ℕ) (r : ℕ) (h : r < row_count table) where
 
 -- What a row is refused for in the pass.
 module _ (drops : Bool) (table pool : List ℕ) (r : ℕ) where
-  pub step-fault : {fault : Checked} → fault ≡ verdict (fault_refusal table pool r) → (x : Refusal) → fault ≡ Checked.Refused x → fault ≡ verdict (step_refusal drops table pool r)
+  pub step-fault : {fault : Result ⊤ Refusal} → fault ≡ verdict (fault_refusal table pool r) → (x : Refusal) → fault ≡ Err x → fault ≡ verdict (step_refusal drops table pool r)
   unfolding step_refusal
   step-fault f x t =
       let e = verdict-refused (fault_refusal table pool r) x (sym f ∙ t) in
@@ -99,11 +98,11 @@ module _ (drops : Bool) (table pool : List ℕ) (r : ℕ) where
       (λ d. rw d f)
       (λ d. rw (d, e) t)
 
-  pub step-drops : drops ≡ true → {fault : Checked} → fault ≡ verdict (fault_refusal table pool r) → fault ≡ verdict (step_refusal drops table pool r)
+  pub step-drops : drops ≡ true → {fault : Result ⊤ Refusal} → fault ≡ verdict (fault_refusal table pool r) → fault ≡ verdict (step_refusal drops table pool r)
   unfolding step_refusal
   step-drops d f = rw d f
 
-  pub step-conflict : drops ≡ false → fault_refusal table pool r ≡ none → {conflict : Checked} → conflict ≡ verdict (drop_refusal (nodes table pool) (kept (nodes table pool) r) r) → conflict ≡ verdict (step_refusal drops table pool r)
+  pub step-conflict : drops ≡ false → fault_refusal table pool r ≡ none → {conflict : Result ⊤ Refusal} → conflict ≡ verdict (drop_refusal (nodes table pool) (kept (nodes table pool) r) r) → conflict ≡ verdict (step_refusal drops table pool r)
   unfolding step_refusal
   step-conflict d e c = rw (d, e) (c ∙ ap verdict (first_alone (drop_refusal (nodes table pool) (kept (nodes table pool) r) r)))
 
@@ -112,7 +111,7 @@ module _ {drops : Bool} {table pool dictionary notes chains fates : List ℕ} {r
   ns = nodes table pool
 
   -- no row is left
-  pub going_end : drops ≡ true → row_count table ≤ r → {dropped : ℕ} → dropped ≡ length (drops_below ns r) → Judged table pool fates (Salvaged.Done (r - dropped) dropped)
+  pub going_end : drops ≡ true → row_count table ≤ r → {dropped : ℕ} → dropped ≡ length (drops_below ns r) → Judged table pool fates (Ok (record { rows = r - dropped; dropped = dropped }))
   unfolding judged
   going_end drop h {dropped} d =
       let bound = g.bound in
@@ -130,7 +129,7 @@ module _ {drops : Bool} {table pool dictionary notes chains fates : List ℕ} {r
       let bound = g.bound in
       refused-kept table pool q (omega arith) (λ s j. g.alone d s (omega arith)) ∙ rw (g.faultless q i, g.alone d q i) refl
 
-  pub going-accepted : drops ≡ false → row_count table ≤ r → Checked.Accepted ≡ verdict (rows_refusal table pool)
+  pub going-accepted : drops ≡ false → row_count table ≤ r → (Ok tt) ≡ verdict (rows_refusal table pool)
   going-accepted d h = let clear = none-lowest (refusal_at table pool) (row_count table) (λ q i. unrefused-before d q (omega arith)) in rw clear refl
 
   pub going-named : row_count table ≤ r → Named table pool dictionary notes
@@ -183,18 +182,18 @@ module _ {drops : Bool} {table pool dictionary notes chains fates : List ℕ} {r
         sym (from_start row (row_count table)) ∙ sym (rw (zero-add r) at (rest-passed row (row_count table) 0 r (omega arith) (λ q i j. before q (omega arith))))
         ∙ from-refused row (row_count table) r h x e
 
-    module _ {drawn : Checked} (f : drawn ≡ verdict (step_refusal drops table pool r)) (x : Refusal) (t : drawn ≡ Checked.Refused x) where
+    module _ {drawn : Result ⊤ Refusal} (f : drawn ≡ verdict (step_refusal drops table pool r)) (x : Refusal) (t : drawn ≡ Err x) where
       step : step_refusal drops table pool r ≡ some x
       step = verdict-refused (step_refusal drops table pool r) x (sym f ∙ t)
 
-      pub going-refused : drops ≡ true → (left : List ℕ) → Judged table pool left (Salvaged.Refused x)
+      pub going-refused : drops ≡ true → (left : List ℕ) → Judged table pool left (Err x)
       unfolding judged step_refusal
       going-refused d left =
           let here : fault_refusal table pool r ≡ some x = rw d at step in
           let first = first_of (fault_refusal table pool) g.faultless x here in
           record { given = rw first refl; fated = λ n. absurd (none-ne-some x (sym n ∙ first)) }
 
-      pub going-drawn : drops ≡ false → Checked.Refused x ≡ verdict (rows_refusal table pool)
+      pub going-drawn : drops ≡ false → Err x ≡ verdict (rows_refusal table pool)
       unfolding step_refusal
       going-drawn d =
           let here : first_refusal (fault_refusal table pool r ∷ drop_refusal ns (kept ns r) r ∷ []) ≡ some x = rw d at step in
@@ -236,7 +235,7 @@ module _ {drops : Bool} {table pool dictionary notes chains fates : List ℕ} {r
       going-owned = renumbered g.owned noted l same-notes
 
       -- Its fate is what its conflict is, and it is entered if it has none.
-      module _ (clear : fault_refusal table pool r ≡ none) {conflict : Checked} (c : conflict ≡ verdict (conflict_refusal (keeps ns) ns r)) where
+      module _ (clear : fault_refusal table pool r ≡ none) {conflict : Result ⊤ Refusal} (c : conflict ≡ verdict (conflict_refusal (keeps ns) ns r)) where
         fate : conflict ≡ verdict (drop_refusal ns (kept ns r) r)
         fate = c ∙ ap verdict (drop-conflict ns r)
 
@@ -272,7 +271,7 @@ module _ {drops : Bool} {table pool dictionary notes chains fates : List ℕ} {r
         going-dropped d chained room wrote = going_next chained (λ z. rw wrote (fated-noted (g.fated d) room fate)) (λ z. absurd (true-not-false d z))
 
         pub going-alone :
-            drops ≡ false → {chains' : List ℕ} → chains' ≡ settled conflict chains (bucket_at table noted (r + 1)) r → conflict ≡ Checked.Accepted → Going drops table pool after noted chains' fates (r + 1)
+            drops ≡ false → {chains' : List ℕ} → chains' ≡ settled conflict chains (bucket_at table noted (r + 1)) r → conflict ≡ Ok tt → Going drops table pool after noted chains' fates (r + 1)
         going-alone d chained a = going_next chained (λ z. absurd (true-not-false z d)) (λ z. verdict-accepted (drop_refusal ns (kept ns r) r) (sym fate ∙ a))
 
 -- The loop: besides, the arrays are as long as they were, and the links in the notes are kept.

@@ -1,35 +1,34 @@
 -- The pass over the rows, in which rows may be dropped for their conflicts: what holds before a row, and what it answers.
-use Rattle.std.specs.Prelude.{ℕ, ◌*◌, ◌≤◌, ◌<◌, ◌≡◌, Bool, true, false, cond, List, [], ◌∷◌, length}
+use Rattle.std.specs.Prelude.{ℕ, ◌*◌, ◌≤◌, ◌<◌, ◌≡◌, Bool, true, false, cond, List, [], ◌∷◌, length, Result, Ok, Err, ⊤}
 use Rattle.std.proofs.Math.Option.{Option, none}
 use Rattle.rules.specs.Table.{row_count, nodes}
 use Rattle.rules.specs.Refusals.{first_refusal, lowest_refusal, unless_refused}
 use Rattle.rules.specs.declared.Refusal.{Refusal}
-use Rattle.rules.specs.declared.Checked.{Checked}
-use Rattle.rules.specs.declared.Salvaged.{Salvaged}
 use Rattle.numbers.specs.Noted.{Numbered}
 use Rattle.dictionary.specs.Dictionary.{last_of, spelling, Dictionary}
 use Rattle.faults.specs.Faults.{fault_refusal}
 use Rattle.doubles.specs.Doubles.{Entered}
 use Rattle.dropped_rows.specs.Dropped.{drop_refusal, kept, drops_below}
 use Rattle.fates.specs.Fates.{keeps, Fated}
+use Rattle.rules.specs.declared.Salvaged.{Salvaged}
 
 -- the verdict that an answer stands for
-unfoldable pub checked_of : Salvaged → Checked
-checked_of (Salvaged.Done rows dropped) = Checked.Accepted
-checked_of (Salvaged.Refused x) = Checked.Refused x
+unfoldable pub checked_of : Result Salvaged Refusal → Result ⊤ Refusal
+checked_of (Ok kept) = Ok tt
+checked_of (Err x) = Err x
 
 -- the first fault of the rows
 abbrev pub rows_fault : List ℕ → List ℕ → Option Refusal
 rows_fault table pool = lowest_refusal (fault_refusal table pool) (row_count table)
 
 -- what is answered where rows are dropped: the first fault, or how many rows are kept and how many dropped
-unfoldable pub judged : List ℕ → List ℕ → Salvaged
+unfoldable pub judged : List ℕ → List ℕ → Result Salvaged Refusal
 judged table pool =
-    unless_refused (rows_fault table pool) Salvaged.Refused
-    (Salvaged.Done (length (kept (nodes table pool) (row_count table))) (length (drops_below (nodes table pool) (row_count table))))
+    unless_refused (rows_fault table pool) Err
+    (Ok (record { rows = length (kept (nodes table pool) (row_count table)); dropped = length (drops_below (nodes table pool) (row_count table)) }))
 
 -- It was answered, and the fates of all rows are noted unless one has a fault.
-pub record Judged (table pool fates : List ℕ) (answer : Salvaged) : Type 0 where
+pub record Judged (table pool fates : List ℕ) (answer : Result Salvaged Refusal) : Type 0 where
   pub given : answer ≡ judged table pool
   pub fated : rows_fault table pool ≡ none → Fated (nodes table pool) fates (row_count table)
 

@@ -3,12 +3,11 @@
 // noted as the row's fate, and only kept rows are entered, with which rows behind are compared.
 #![tactic(auto)]
 
-ghost use Rattle.std.specs.Prelude.{◌≡◌, Bool, true, false, cond, ◌&&◌, not, List, ℕ, ◌+◌, ◌≤◌, ◌<◌, eqb, length, get_or};
+ghost use Rattle.std.specs.Prelude.{◌≡◌, Bool, true, false, cond, ◌&&◌, not, List, ℕ, ◌+◌, ◌≤◌, ◌<◌, eqb, length, get_or, Ok};
 ghost use Rattle.rules.specs.Lists.{all_of};
 ghost use Rattle.rules.specs.Table.{row_count, nodes};
 ghost use Rattle.rules.specs.Utf8.{is_ascii};
 ghost use Rattle.rules.specs.Refusals.{verdict};
-ghost use Rattle.rules.specs.declared.Checked.{Checked};
 ghost use Rattle.notes.specs.Notes.{NOTES, LATEST, note_at};
 ghost use Rattle.dictionary.specs.Dictionary.{last_of, is_hard, Dictionary};
 ghost use Rattle.value_bytes.specs.Judging.{Judging};
@@ -18,7 +17,7 @@ ghost use Rattle.row_checks.specs.Pass.{rows_refusal};
 ghost use Rattle.row_checks.specs.Arrays.{Enough, Named};
 ghost use Rattle.row_checks.specs.Judging.{checked_of, Judged, step_refusal, Going, Counted, SomeGoing};
 
-use rules::{Checked, Row, Salvaged};
+use rules::{Refusal, Row, Salvaged};
 use tree::structure;
 
 // Refusals 2 to 7 and 12 to 14, rows ascending. Where that is wanted, it stops once the names are hard, and then its answer tells
@@ -31,21 +30,19 @@ pub fn check_rows(
     dictionary: &mut [u16],
     notes: &mut [u16],
     stops: bool,
-) -> Checked
+) -> Result<(), Refusal>
     requires enough { Enough table.now pool.now dictionary.old notes.old }
     requires judging { Judging pool.now marks.now ascii }
     requires dictionary { Dictionary dictionary.old pool.now × (last_of dictionary.old ≤ 0) }
     ensures value { (stops && is_hard dictionary.new) ≡ false → result ≡ verdict (rows_refusal table.now pool.now) }
-    ensures named { (stops && is_hard dictionary.new) ≡ false → result ≡ Checked.Accepted → Named table.now pool.now dictionary.new notes.new }
+    ensures named { (stops && is_hard dictionary.new) ≡ false → result ≡ Ok tt → Named table.now pool.now dictionary.new notes.new }
     ensures by_index { (q k : ℕ) → LATEST ≤ k → k < NOTES → note_at notes.new q k ≡ note_at notes.old q k }
 {
     let mut fates = [0; 1];
-    match judge_rows(
+    judge_rows(
         table, pool, ascii, marks, dictionary, notes, &mut fates, stops, false,
-    ) {
-        Salvaged::Done { rows, dropped } => Checked::Accepted,
-        Salvaged::Refused(x) => Checked::Refused(x),
-    }
+    )?;
+    Ok(())
 }
 
 // The first refusal of the rows, or how many are kept and how many dropped. Where rows are dropped for their conflicts, refusals 6
@@ -61,7 +58,7 @@ pub fn judge_rows(
     fates: &mut [u32],
     stops: bool,
     drops: bool,
-) -> Salvaged
+) -> Result<Salvaged, Refusal>
     requires enough { Enough table.now pool.now dictionary.old notes.old }
     requires judging { Judging pool.now marks.now ascii }
     requires dictionary { Dictionary dictionary.old pool.now × (last_of dictionary.old ≤ 0) }
@@ -69,15 +66,16 @@ pub fn judge_rows(
     requires fated { drops ≡ true → Fated (nodes table.now pool.now) fates.old 0 }
     ensures judged { (stops && is_hard dictionary.new) ≡ false → drops ≡ true → Judged table.now pool.now fates.new result }
     ensures result_value { (stops && is_hard dictionary.new) ≡ false → drops ≡ false → checked_of result ≡ verdict (rows_refusal table.now pool.now) }
-    ensures named { (stops && is_hard dictionary.new) ≡ false → checked_of result ≡ Checked.Accepted → Named table.now pool.now dictionary.new notes.new }
+    ensures named { (stops && is_hard dictionary.new) ≡ false → checked_of result ≡ Ok tt → Named table.now pool.now dictionary.new notes.new }
     ensures by_index { (q k : ℕ) → LATEST ≤ k → k < NOTES → note_at notes.new q k ≡ note_at notes.old q k }
 {
     let allowed = structure::allowed_parents();
     let mut chains = [0; doubles::WORDS];
     let mut dropped = 0;
     let mut r: u32 = 0;
+    // A step goes over as many rows as `pass` passes, so no range gives r.
     while rows::has_row(table, Row(r)) {
-        let drawn = judge_row(
+        judge_row(
             table,
             pool,
             ascii,
@@ -89,15 +87,12 @@ pub fn judge_rows(
             fates,
             drops,
             Row(r),
-        );
-        if let Checked::Refused(x) = drawn {
-            return Salvaged::Refused(x);
-        }
+        )?;
         if stops & dictionary::is_hard(dictionary) {
-            return Salvaged::Done {
+            return Ok(Salvaged {
                 rows: 0,
                 dropped: 0,
-            };
+            });
         }
         dropped = counted(fates, drops, dropped, Row(r));
         let next = r + 1;
@@ -114,7 +109,7 @@ pub fn judge_rows(
         .0;
     }
     let rows = rows::wide(r) - dropped;
-    Salvaged::Done { rows, dropped }
+    Ok(Salvaged { rows, dropped })
 }
 
 // What a row is refused for. Where it is not, its names get their numbers, and it is entered if it has no conflict; if it may have
@@ -131,7 +126,7 @@ fn judge_row(
     fates: &mut [u32],
     drops: bool,
     row: Row,
-) -> Checked
+) -> Result<(), Refusal>
     requires enough { Enough table.now pool.now dictionary.old notes.old }
     requires judging { Judging pool.now marks.now ascii }
     requires right { Right allowed.now }
@@ -139,19 +134,16 @@ fn judge_row(
     requires table_in_bounds { drops ≡ true → row_count table.now ≤ length fates.old }
     requires going { Going drops table.now pool.now dictionary.old notes.old chains.old fates.old row.0 }
     ensures value { result ≡ verdict (step_refusal drops table.now pool.now row.0) }
-    ensures going_2 { result ≡ Checked.Accepted → Going drops table.now pool.now dictionary.new notes.new chains.new fates.new (row.0 + 1) }
+    ensures going_2 { result ≡ Ok tt → Going drops table.now pool.now dictionary.new notes.new chains.new fates.new (row.0 + 1) }
     ensures by_index { (q k : ℕ) → LATEST ≤ k → k < NOTES → note_at notes.new q k ≡ note_at notes.old q k }
 {
-    let fault = faults::check(table, pool, ascii, marks, allowed, dictionary, notes, row);
-    let Checked::Accepted = fault else {
-        return fault;
-    };
+    faults::check(table, pool, ascii, marks, allowed, dictionary, notes, row)?;
     let conflict = conflicts::check(table, dictionary, notes, chains, row);
     if !drops {
         return conflict;
     }
     fates::note(fates, row, conflict);
-    fault
+    Ok(())
 }
 
 // How many rows are dropped up to a row, of so many before it.

@@ -1,5 +1,6 @@
 -- What a row is refused for, from what the functions answer.
 -- Assumes nothing.
+use Rattle.std.specs.Prelude.{Result, Ok, Err, ⊤}
 use Prim.Native.Nat.{ℕ, zero, suc, ◌≤◌, ◌<◌}
 use mathlib.Core.Path.{◌≡◌, refl, sym, ap, ◌∙◌, subst}
 use mathlib.Core.Bool.{true, ◌&&◌}
@@ -14,7 +15,6 @@ use Rattle.rules.specs.Refusals.{first_refusal, verdict}
 use Rattle.rules.specs.Lookups.{element_child}
 use Rattle.rules.specs.Normalization.{level1_refusal}
 use Rattle.rules.specs.declared.Refusal.{Refusal}
-use Rattle.rules.specs.declared.Checked.{Checked}
 use Rattle.rules.proofs.Lists.{by_cases, both_true, true-not-false, first_that-passes}
 use Rattle.rules.proofs.Table.{length-nodes}
 use Rattle.rules.proofs.Refusals.{first_alone, first-refused, first-passed}
@@ -73,25 +73,25 @@ module _ (table pool : List ℕ) (start e : ℕ) (few : row_count table ≤ MOST
   element-kind within = chosen ns start e (element-chosen within)
 
   -- What is clear is not refused.
-  pub row-clear : Unrefused table pool e → Checked.Accepted ≡ verdict (row_refusal ns start)
+  pub row-clear : Unrefused table pool e → (Ok tt) ≡ verdict (row_refusal ns start)
   unfolding row_refusal
   row-clear clear = rw (element-chosen clear.within, clear.level2, clear.subtree start (element-kind clear.within)) refl
 
   -- 9; and behind it the subtree.
-  module _ {level1 : Checked} (first : level1 ≡ verdict (level1_refusal ns)) where
-    pub row-level1 : (x : Refusal) → level1 ≡ Checked.Refused x → level1 ≡ verdict (row_refusal ns start)
+  module _ {level1 : Result ⊤ Refusal} (first : level1 ≡ verdict (level1_refusal ns)) where
+    pub row-level1 : (x : Refusal) → level1 ≡ Err x → level1 ≡ verdict (row_refusal ns start)
     unfolding row_refusal
     row-level1 x is = first-refused (level1_refusal ns) (subtree_refusal ns start (element_to_write ns start) ∷ []) first x is
 
-    module _ (passed : level1 ≡ Checked.Accepted) where
+    module _ (passed : level1 ≡ Ok tt) where
       behind : row_refusal ns start ≡ subtree_refusal ns start (element_to_write ns start)
       unfolding row_refusal
       behind = first-passed (level1_refusal ns) (subtree_refusal ns start (element_to_write ns start) ∷ []) first passed ∙ sym (first_alone (subtree_refusal ns start (element_to_write ns start)))
 
-      pub row-subtree : e < row_count table → {drawn : Checked} → drawn ≡ verdict (subtree_refusal ns start (some e)) → drawn ≡ verdict (row_refusal ns start)
+      pub row-subtree : e < row_count table → {drawn : Result ⊤ Refusal} → drawn ≡ verdict (subtree_refusal ns start (some e)) → drawn ≡ verdict (row_refusal ns start)
       row-subtree within second = second ∙ ap verdict (sym (behind ∙ ap (subtree_refusal ns start) (element-chosen within)))
 
-      pub row-none : row_count table ≤ e → Checked.Refused (Refusal.NotMarkup (record { 0 = start })) ≡ verdict (row_refusal ns start)
+      pub row-none : row_count table ≤ e → Err (Refusal.NotMarkup (record { 0 = start })) ≡ verdict (row_refusal ns start)
       unfolding subtree_refusal
       row-none past = ap verdict (sym (behind ∙ ap (subtree_refusal ns start) (element-none past)))
 

@@ -9,7 +9,7 @@ ghost use Rattle.markup.specs.Writing.{element_to_write};
 ghost use Rattle.unsettled.specs.Walkable.{Prepared};
 ghost use Rattle.row_refusals.specs.Refused.{row_refusal};
 
-use rules::{Checked, Refusal, Row};
+use rules::{Refusal, Row};
 
 // What writing from a row is refused for, where the check draws nothing. The element that is written is at hand, or NONE.
 pub fn check(
@@ -20,21 +20,18 @@ pub fn check(
     notes: &[u16],
     tops: &mut [u16],
     path: &mut [u16],
-) -> Checked
+) -> Result<(), Refusal>
     requires prepared { Prepared table.now pool.now notes.now tops.old path.old }
     requires element_value { element.0 ≡ row_or (element_to_write (nodes table.now pool.now) row.0) }
     ensures { result ≡ verdict (row_refusal (nodes table.now pool.now) row.0) }
 {
     let first = subtree_refusals::first_unclear(table, pool, element, notes, tops, path);
     if first.0 == rules::NONE {
-        return Checked::Accepted;
+        return Ok(());
     }
-    let level1 = levels::level1(table);
-    let Checked::Accepted = level1 else {
-        return level1;
-    };
+    levels::level1(table)?;
     if rows::has_row(table, element) {
         return subtree_refusals::check_subtree(table, pool, element, first, notes, tops, path);
     }
-    Checked::Refused(Refusal::NotMarkup(row))
+    Err(Refusal::NotMarkup(row))
 }

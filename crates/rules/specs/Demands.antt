@@ -1,6 +1,6 @@
 -- RULES 6, demands: that the default URI answers the default test, that a result passes the check, and demand 3. The latter
 -- speak of outcomes: the answer and the whole output buffers.
-use Rattle.std.specs.Prelude.{ℕ, zero, suc, ◌*◌, ◌<◌, ◌≡◌, Bool, cond, ◌&&◌, ◌||◌, not, List, [], ◌∷◌, map, length, take, drop, T, eqb, ltb}
+use Rattle.std.specs.Prelude.{ℕ, zero, suc, ◌*◌, ◌<◌, ◌≡◌, Bool, cond, ◌&&◌, ◌||◌, not, List, [], ◌∷◌, map, length, take, drop, T, eqb, ltb, Ok, Err}
 use Rattle.rules.specs.Lists.{filtered, is_one_of, is_empty, same_bytes}
 use Rattle.rules.specs.Table.{WIDTH, NONE, ELEMENT, ATTRIBUTE, DECLARATION, Field, Node, fields, nodes, node}
 use Rattle.rules.specs.Answers.{filled_number, filled_rows, filled_bytes}
@@ -9,14 +9,12 @@ use Rattle.rules.specs.Lookups.{scope_at, in_scope_uri, uri_bytes, is_default, l
 use Rattle.rules.specs.Outputs.{Outcome}
 use Rattle.rules.specs.Normalization.{normalized}
 use Rattle.rules.specs.declared.Refusal.{Refusal}
-use Rattle.rules.specs.declared.Checked.{Checked}
-use Rattle.rules.specs.declared.Located.{Located}
 
 -- Wherever the default URI is not refused, comparing it with a query is the default test: the bytes of the place, or none for
 -- nothing, are the query exactly if the query is the default.
 abbrev pub DefaultTest : Type 0
 DefaultTest =
-    (table pool : List ℕ) (r : ℕ) → ((x : Refusal) → default_uri_at table pool r ≡ Located.Refused x → ⊥) → (uri : List ℕ) →
+    (table pool : List ℕ) (r : ℕ) → ((x : Refusal) → default_uri_at table pool r ≡ Err x → ⊥) → (uri : List ℕ) →
     same_bytes (located_part pool (default_uri_at table pool r)) uri ≡ is_default (nodes table pool) uri (lookup_elements (nodes table pool) r)
 
 -- Normalization succeeded.
@@ -38,7 +36,7 @@ result_rows o = nodes (result_table o) (result_pool o)
 abbrev pub PassesAgain : Type 0
 PassesAgain =
     (table pool : List ℕ) (table_size pool_size : ℕ) → T (succeeded (normalized table pool table_size pool_size)) →
-    checked (result_table (normalized table pool table_size pool_size)) (result_pool (normalized table pool table_size pool_size)) ≡ Checked.Accepted
+    checked (result_table (normalized table pool table_size pool_size)) (result_pool (normalized table pool table_size pool_size)) ≡ Ok tt
 
 -- An element means its URI if the in-scope URI of its prefix (or default) is it, none for none.
 unfoldable pub element_means_in : List Node → Node → Bool

@@ -1,5 +1,5 @@
-// The types that every crate shares: where things stand in a node table and its pool, and what an
-// operation answers. The definitions in specs/Answers.antt give each case's number and values.
+// The types that every crate shares: where things stand in a node table and its pool, and what an operation answers: a value,
+// or the refusal of its input. The definitions in specs/Answers.antt give each case's number and values.
 #![tactic(auto)]
 
 // The words of a row, the most rows of a table and the most bytes of a pool.
@@ -145,13 +145,6 @@ pub enum Refusal {
     Unresolved(Row),
 }
 
-// What the check answers.
-#[derive(Clone, Copy)]
-pub enum Checked {
-    Accepted,
-    Refused(Refusal),
-}
-
 // What is asked at a row: a URI of a prefix or a prefix of a URI, by names and declarations or by declarations alone.
 #[derive(Clone, Copy)]
 pub enum Question {
@@ -161,48 +154,31 @@ pub enum Question {
     InScopePrefix,
 }
 
-// What the lookup of a prefix and that of the default URI find: a part of the pool, or nothing.
-#[derive(Clone, Copy)]
-pub enum Located {
-    At(Place),
-    Nothing,
-    Refused(Refusal),
-}
-
-// What the lookup of a URI and the in-scope lookups find: a part of the pool, a built-in, or nothing.
+// What a lookup finds, if it finds anything: a part of the pool, or a built-in.
 #[derive(Clone, Copy)]
 pub enum Bound {
     At(Place),
     Xml,
     Xmlns,
-    Nothing,
-    Refused(Refusal),
 }
 
-// What an operation answers that fills a lent table and a lent pool: how many rows and bytes of them it takes.
+// How many rows and bytes an operation takes of the lent table and the lent pool that it fills.
 #[derive(Clone, Copy)]
-pub enum Filled {
-    Done { rows: usize, bytes: usize },
-    Refused(Refusal),
+pub struct Filled {
+    pub rows: usize,
+    pub bytes: usize,
 }
 
-// What writing a bundle or XML text answers: how many bytes of the output it takes.
+// How many rows salvage takes of the output table, and how many dropped rows the list holds.
 #[derive(Clone, Copy)]
-pub enum Written {
-    Done { bytes: usize },
-    Refused(Refusal),
+pub struct Salvaged {
+    pub rows: usize,
+    pub dropped: usize,
 }
 
-// What salvage answers: how many rows of the output table it takes, and how many dropped rows the list holds.
+// How many bytes the salvage of a bundle takes of the output, and how many dropped rows the list holds.
 #[derive(Clone, Copy)]
-pub enum Salvaged {
-    Done { rows: usize, dropped: usize },
-    Refused(Refusal),
-}
-
-// What the salvage of a bundle answers: how many bytes of the output it takes, and how many dropped rows the list holds.
-#[derive(Clone, Copy)]
-pub enum Rescued {
-    Done { bytes: usize, dropped: usize },
-    Refused(Refusal),
+pub struct Rescued {
+    pub bytes: usize,
+    pub dropped: usize,
 }

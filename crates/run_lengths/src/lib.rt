@@ -34,11 +34,9 @@ pub fn measure_runs(bytes: &[u8], runs: &mut [u16])
     requires { (length bytes.now ≤ MOST_BYTES) × (2 * length bytes.now ≤ length runs.old) }
     ensures { Measured bytes.now runs.new }
 {
-    let mut i = bytes.len();
     let mut text: u16 = 0;
     let mut quoted: u16 = 0;
-    while i > 0 {
-        i -= 1;
+    for i in (0..bytes.len()).rev() {
         text = run_from(bytes[i], text, false);
         quoted = run_from(bytes[i], quoted, true);
         runs[2 * i] = text;

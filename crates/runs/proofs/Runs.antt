@@ -6,14 +6,16 @@ use mathlib.Core.Bool.{Bool, true, false, cond, not, ◌&&◌, ◌||◌}
 use mathlib.Core.List.{List, [], ◌∷◌, ◌++◌}
 use mathlib.Core.Logic.{◌⊎◌, inl, inr}
 use native.Mathlib.Nat.{le_of_suc-le-suc, not-suc-le-zero}
-use native.Mathlib.Numerals.{add-one}
 use native.Mathlib.Omega.{arith}
 use lib.Bits.{bit_or}
-use lib.Dec.{eqb}
+use lib.Dec.{eqb, ltb}
 use lib.ListN.{length, get_or, take, drop, length-drop, drop_of_length-le}
 use lib.Seq.{take-nil, drop-cons, drop-drop, get_or-drop, length-take-le}
 use mir.Val.{bool_byte}
-use borrow.Author.Tests.{ne_eqb}
+use borrow.Author.Tests.{ne_eqb, ltb-false}
+use Rattle.std.specs.List.{position, position_or_len}
+use Rattle.std.specs.Option.{unwrap_or}
+use Rattle.std.specs.declared.option.Option.{Option}
 use Rattle.rules.specs.Lists.{all_of}
 use Rattle.rules.proofs.Lists.{by_cases, both_true, true-both, not-true}
 use Rattle.escapes.specs.Escapes.{is_escaped, escaped}
@@ -211,14 +213,21 @@ longer quoted bytes k h behind is =
     is ∙ rw (drop-cons bytes k 0 h)
     (by_cases (is_escaped quoted (get_or bytes k 0)) (λ e. rw e refl) (λ e. rw e (omega (arith, behind))))
 
--- Looking for the end of a run: it goes on over a byte, or ends.
-pub run_on : (quoted : Bool) (bytes : List ℕ) (k : ℕ) → k < length bytes → is_escaped quoted (get_or bytes k 0) ≡ false → length (run quoted (drop (k + 1) bytes)) + 1 ≡ length (run quoted (drop k bytes))
-run_on quoted bytes k h e =
-    let next : length (run quoted (drop (k + 1) bytes)) ≡ length (run quoted (drop (suc k) bytes)) = ap (λ (n : ℕ). length (run quoted (drop n bytes))) (add-one k) in
-    longer quoted bytes k h next (rw e refl)
+-- Looking for the end of a run: the first byte that is escaped.
+run-first : (quoted : Bool) (l : List ℕ) → position_or_len (is_escaped quoted) l ≡ length (run quoted l)
+unfolding run
+run-first quoted [] = refl
+run-first quoted (b ∷ bs) =
+    by_cases (is_escaped quoted b)
+    (λ e. rw e refl)
+    (λ e. rw e (omega (arith, run-first quoted bs)))
 
-pub run-ended : (quoted : Bool) (bytes : List ℕ) (k : ℕ) → k < length bytes → is_escaped quoted (get_or bytes k 0) ≡ true → 0 ≡ length (run quoted (drop k bytes))
-run-ended quoted bytes k h e = longer quoted bytes k {size = length (run quoted (drop (suc k) bytes))} h refl (rw e refl)
+pub run-position : (quoted : Bool) (l : List ℕ) {found : Option ℕ} → found ≡ position (is_escaped quoted) l → unwrap_or found (length l) ≡ length (run quoted l)
+run-position quoted l e =
+    let size = run-first quoted l in
+    by_cases (ltb (length (run quoted l)) (length l))
+    (λ t. rw (e, size, t) refl)
+    (λ t. rw (e, size, t) (omega (arith, ltb-false (length (run quoted l)) (length l) t, run-within quoted l)))
 
 -- A length that is looked for is that of a run.
 pub length-looked : (quoted : Bool) (value : List ℕ) (i : ℕ) {size : ℕ} → size ≡ length (run quoted (drop i value)) → (take size (drop i value) ≡ run quoted (drop i value)) × (size ≤ length value - i)

@@ -23,14 +23,10 @@ pub fn look_for_run(bytes: &[u8], i: usize, quoted: bool) -> usize
     requires { i ≤ length bytes.now }
     ensures { result ≡ length (run quoted (drop i bytes.now)) }
 {
-    let mut end = i;
-    while end < bytes.len() {
-        if ends_run(bytes[end], quoted) {
-            return end - i;
-        }
-        end += 1;
-    }
-    end - i
+    let rest = &bytes[i..];
+    rest.iter()
+        .position(|b| ends_run(*b, quoted))
+        .unwrap_or(rest.len())
 }
 
 // No byte is escaped. The compiler makes a loop for each of the two kinds of values.
@@ -48,10 +44,8 @@ fn all_plain(bytes: &[u8], quoted: bool) -> bool
     ensures { result ≡ all_of (is_plain quoted) bytes.now }
 {
     let mut seen: u8 = 0;
-    let mut i = 0;
-    while i < bytes.len() {
-        seen = seen | (is_escaped(bytes[i], quoted) as u8);
-        i += 1;
+    for b in bytes {
+        seen |= is_escaped(*b, quoted) as u8;
     }
     seen == 0
 }

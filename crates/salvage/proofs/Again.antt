@@ -1,5 +1,6 @@
 -- What passes comes back as it is, and so does a result.
 -- Assumes nothing.
+use Rattle.std.specs.Prelude.{Ok}
 use Prim.Native.Nat.{ℕ, ◌-◌, ◌/◌, ◌%◌, ◌≤◌, ◌<◌}
 use mathlib.Core.Path.{◌≡◌, refl, sym, ◌∙◌}
 use mathlib.Core.Bool.{false}
@@ -14,8 +15,6 @@ use Rattle.rules.specs.Answers.{salvaged_rows}
 use Rattle.rules.specs.Refusals.{refused_if, first_refusal, lowest_refusal, bad_size, faults, conflicts, row_refusal, check_refusal, checked}
 use Rattle.rules.specs.Outputs.{padded}
 use Rattle.rules.specs.declared.Refusal.{Refusal}
-use Rattle.rules.specs.declared.Checked.{Checked}
-use Rattle.rules.specs.declared.Salvaged.{Salvaged}
 use Rattle.rules.proofs.Table.{length-nodes, length-words}
 use Rattle.rules.proofs.Refusals.{not-refused, all_none, first-append, verdict-accepted, lowest-none, none-lowest}
 use Rattle.rules.proofs.Accepted.{unrefused, parent-falls}
@@ -47,7 +46,7 @@ module _ (table pool : List ℕ) (table_size list_size : ℕ) (stay : salvaged_n
       let long : length (nodes table pool) ≤ table_size / WIDTH = rw length-nodes room in
       rw (stay, nothing, le-ltb (table_size / WIDTH) (length (nodes table pool)) long) (le-ltb (list_size / ENTRY) 0 (omega arith))
 
-  pub unchanged : length table % WIDTH ≡ 0 → success table pool table_size list_size ≡ record { answer = Salvaged.Done (row_count table) 0; table = padded table_size table; list = replicate list_size 0 }
+  pub unchanged : length table % WIDTH ≡ 0 → success table pool table_size list_size ≡ record { answer = Ok (record { rows = row_count table; dropped = 0 }); table = padded table_size table; list = replicate list_size 0 }
   unfolding listed padded
   unchanged whole =
       let zero : list_size - 0 ≡ list_size = omega arith in
@@ -72,6 +71,6 @@ salvaged-again table pool table_size list_size t table_size' list_size' room =
     let rows = salvaged_nodes (nodes table pool) in
     let count : row_count (words rows) ≡ length rows = rw length-words (omega arith) in
     let done : salvaged_rows (salvaged table pool table_size list_size).answer ≡ length rows = rw s.1 refl in
-    let accepted : checked (words rows) pool ≡ Checked.Accepted = rw (passes table pool s.0) refl in
+    let accepted : checked (words rows) pool ≡ (Ok tt) = rw (passes table pool s.0) refl in
     let again = passed-unchanged (words rows) pool table_size' list_size' accepted (rw count (rw done at room)) in
     rw (result_words table pool table_size list_size t, done) (again ∙ rw count refl)

@@ -1,5 +1,6 @@
 -- The result of salvage, read from the output buffers, passes the check.
 -- Assumes nothing.
+use Rattle.std.specs.Prelude.{Ok, Err}
 use Prim.Native.Nat.{ℕ, ◌+◌, ◌*◌, ◌-◌, ◌%◌, ◌≤◌, ◌<◌}
 use mathlib.Core.Path.{◌≡◌, refl, sym, ◌∙◌, ap, subst}
 use mathlib.Core.Bool.{true, false}
@@ -17,7 +18,6 @@ use Rattle.rules.specs.Answers.{salvaged_number, salvaged_rows}
 use Rattle.rules.specs.Refusals.{refused_if, first_refusal, unless_refused, bad_size, past_pool, offset_without_length, place_refusal, length_refusal, fields_refusal, faults, check_refusal, checked}
 use Rattle.rules.specs.Outputs.{padded}
 use Rattle.rules.specs.declared.Refusal.{Refusal}
-use Rattle.rules.specs.declared.Salvaged.{Salvaged}
 use Rattle.rules.proofs.Lists.{true-both, T_true, true-not-false, same_bytes-refl, all_of-every}
 use Rattle.rules.proofs.Table.{length-nodes, length-words, node-nodes}
 use Rattle.rules.proofs.Refusals.{not-refused, all_none, lowest-none}
@@ -109,12 +109,12 @@ module _ (table pool : List ℕ) (table_size list_size : ℕ) where
   rows = salvaged_nodes (nodes table pool)
 
   abbrev pub refused : Refusal → SalvageOutcome
-  refused x = record { answer = Salvaged.Refused x; table = replicate table_size 0; list = replicate list_size 0 }
+  refused x = record { answer = Err x; table = replicate table_size 0; list = replicate list_size 0 }
 
   abbrev pub success : SalvageOutcome
   success =
       record {
-        answer = Salvaged.Done (length rows) (length (drops (nodes table pool)));
+        answer = Ok (record { rows = length rows; dropped = length (drops (nodes table pool)) });
         table = padded table_size (words rows);
         list = padded list_size (listed (drops (nodes table pool)));
       }

@@ -1,5 +1,5 @@
 -- What salvage gives. These speak of outcomes: the answer and the whole output buffers.
-use Rattle.std.specs.Prelude.{ℕ, ◌*◌, ◌/◌, ◌≤◌, ◌<◌, ◌≡◌, Bool, true, false, not, List, [], ◌∷◌, length, take, replicate, T, eqb}
+use Rattle.std.specs.Prelude.{ℕ, ◌*◌, ◌/◌, ◌≤◌, ◌<◌, ◌≡◌, Bool, true, false, not, List, [], ◌∷◌, length, take, replicate, T, eqb, Ok}
 use Rattle.std.proofs.Math.Option.{none}
 use Rattle.rules.specs.Lists.{is_one_of, any_of}
 use Rattle.rules.specs.Table.{WIDTH, NONE, PARENT, ATTRIBUTE, DECLARATION, LEVEL1_ATTRIBUTE, Node, word, row_count, nodes, node}
@@ -7,8 +7,6 @@ use Rattle.rules.specs.Answers.{number_of, salvaged_number, salvaged_rows}
 use Rattle.rules.specs.Refusals.{checked}
 use Rattle.rules.specs.Outputs.{padded}
 use Rattle.rules.specs.declared.Refusal.{Refusal}
-use Rattle.rules.specs.declared.Checked.{Checked}
-use Rattle.rules.specs.declared.Salvaged.{Salvaged}
 use Rattle.dropped_rows.specs.Dropped.{kept}
 use Rattle.salvage.specs.Salvage.{drops, SalvageOutcome, fault_refusal, salvaged}
 
@@ -23,14 +21,14 @@ result_table o = take (WIDTH * salvaged_rows o.answer) o.table
 abbrev pub SalvagePasses : Type 0
 SalvagePasses =
     (table pool : List ℕ) (table_size list_size : ℕ) → T (done (salvaged table pool table_size list_size)) →
-    checked (result_table (salvaged table pool table_size list_size)) pool ≡ Checked.Accepted
+    checked (result_table (salvaged table pool table_size list_size)) pool ≡ Ok tt
 
 -- A table that passes comes back unchanged with an empty list, where the output table has room for it.
 abbrev pub PassedUnchanged : Type 0
 PassedUnchanged =
-    (table pool : List ℕ) (table_size list_size : ℕ) → checked table pool ≡ Checked.Accepted → row_count table ≤ table_size / WIDTH →
+    (table pool : List ℕ) (table_size list_size : ℕ) → checked table pool ≡ Ok tt → row_count table ≤ table_size / WIDTH →
     salvaged table pool table_size list_size
-    ≡ record { answer = Salvaged.Done (row_count table) 0; table = padded table_size table; list = replicate list_size 0 }
+    ≡ record { answer = Ok (record { rows = row_count table; dropped = 0 }); table = padded table_size table; list = replicate list_size 0 }
 
 -- Salvaging a result again changes nothing.
 abbrev pub SalvagedAgain : Type 0
@@ -39,7 +37,7 @@ SalvagedAgain =
     (table_size' list_size' : ℕ) → salvaged_rows (salvaged table pool table_size list_size).answer ≤ table_size' / WIDTH →
     salvaged (result_table (salvaged table pool table_size list_size)) pool table_size' list_size'
     ≡ record {
-      answer = Salvaged.Done (salvaged_rows (salvaged table pool table_size list_size).answer) 0;
+      answer = Ok (record { rows = salvaged_rows (salvaged table pool table_size list_size).answer; dropped = 0 });
       table = padded table_size' (result_table (salvaged table pool table_size list_size));
       list = replicate list_size' 0;
     }

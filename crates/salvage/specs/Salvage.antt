@@ -1,5 +1,5 @@
 -- RULES 15, salvage (Q-10): a table without the rows that draw 6, and those that draw 7 against a kept row, and a list of these.
-use Rattle.std.specs.Prelude.{ℕ, ◌*◌, ◌/◌, Bool, cond, ◌||◌, List, [], ◌∷◌, map, length, replicate, eqb, ltb}
+use Rattle.std.specs.Prelude.{ℕ, ◌*◌, ◌/◌, Bool, cond, ◌||◌, List, [], ◌∷◌, map, length, replicate, eqb, ltb, Result, Ok, Err}
 use Rattle.std.proofs.Math.Option.{Option}
 use Rattle.rules.specs.Lists.{gathered}
 use Rattle.rules.specs.Table.{WIDTH, MOST_ROWS, NONE, Node, nodes, words, node, row_count}
@@ -7,11 +7,11 @@ use Rattle.rules.specs.Answers.{number_of}
 use Rattle.rules.specs.Refusals.{refused_if, first_refusal, lowest_refusal, unless_refused, bad_size, faults}
 use Rattle.rules.specs.Outputs.{padded}
 use Rattle.rules.specs.declared.Refusal.{Refusal}
-use Rattle.rules.specs.declared.Salvaged.{Salvaged}
-use Rattle.rules.specs.declared.Rescued.{Rescued}
 use Rattle.dropped_rows.specs.Dropped.{kept, drops_below}
 use Rattle.bundles.specs.Bundles.{write_bundle}
 use Rattle.bundles.specs.Operations.{over_bundle}
+use Rattle.rules.specs.declared.Salvaged.{Salvaged}
+use Rattle.rules.specs.declared.Rescued.{Rescued}
 
 -- A parent's new number is how many rows before it are kept; NONE stays.
 unfoldable pub new_parent : List Node → ℕ → ℕ
@@ -55,7 +55,7 @@ salvage_refusal table pool table_size list_size =
 
 -- What salvage answers and leaves in the output table and the list. The pool is the input's.
 pub record SalvageOutcome : Type 0 where
-  pub answer : Salvaged
+  pub answer : Result Salvaged Refusal
   pub table : List ℕ
   pub list : List ℕ
 
@@ -63,9 +63,9 @@ unfoldable pub salvaged : List ℕ → List ℕ → ℕ → ℕ → SalvageOutco
 salvaged table pool table_size list_size =
     let ns = nodes table pool in
     unless_refused (salvage_refusal table pool table_size list_size)
-    (λ (x : Refusal). record { answer = Salvaged.Refused x; table = replicate table_size 0; list = replicate list_size 0 })
+    (λ (x : Refusal). record { answer = Err x; table = replicate table_size 0; list = replicate list_size 0 })
     (record {
-      answer = Salvaged.Done (length (salvaged_nodes ns)) (length (drops ns));
+      answer = Ok (record { rows = length (salvaged_nodes ns); dropped = length (drops ns) });
       table = padded table_size (words (salvaged_nodes ns));
       list = padded list_size (listed (drops ns));
     })
@@ -73,12 +73,12 @@ salvaged table pool table_size list_size =
 -- The same from a bundle into a bundle, which keeps the whole pool, and a list: 30 to 32, then those above, where 10 speaks of
 -- 1,024 rows and of the list, and 33 last.
 pub record RescueOutcome : Type 0 where
-  pub answer : Rescued
+  pub answer : Result Rescued Refusal
   pub bytes : List ℕ
   pub list : List ℕ
 
 unfoldable pub rescue_refused : ℕ → ℕ → Refusal → RescueOutcome
-rescue_refused size list_size x = record { answer = Rescued.Refused x; bytes = replicate size 0; list = replicate list_size 0 }
+rescue_refused size list_size x = record { answer = Err x; bytes = replicate size 0; list = replicate list_size 0 }
 
 unfoldable pub rescued : List ℕ → List ℕ → ℕ → ℕ → RescueOutcome
 rescued table pool size list_size =
@@ -87,7 +87,7 @@ rescued table pool size list_size =
     unless_refused
     (first_refusal (salvage_refusal table pool (WIDTH * MOST_ROWS) list_size ∷ refused_if (ltb size (length bundle)) Refusal.BundleRoom ∷ []))
     (rescue_refused size list_size)
-    (record { answer = Rescued.Done (length bundle) (length (drops ns)); bytes = padded size bundle; list = padded list_size (listed (drops ns)) })
+    (record { answer = Ok (record { bytes = length bundle; dropped = length (drops ns) }); bytes = padded size bundle; list = padded list_size (listed (drops ns)) })
 
 unfoldable pub bundle_salvaged : List ℕ → ℕ → ℕ → RescueOutcome
 bundle_salvaged bytes size list_size =

@@ -4,8 +4,8 @@
 ghost use Rattle.std.specs.Prelude.{◌≡◌};
 ghost use Rattle.salvage_answers.specs.Given.{rescued_given};
 
-use refusal_numbers::{Number, number_of};
-use rules::{Rescued, Row};
+use refusal_numbers::{NOT_REFUSED, Number};
+use rules::{Refusal, Rescued};
 
 // The bytes of an output that are used, and the rows that were dropped; 0 for a refusal.
 #[repr(C)]
@@ -16,18 +16,14 @@ pub struct Saved {
     pub dropped: usize,
 }
 
-const NOT_REFUSED: Number = Number {
-    number: 0,
-    row: Row(0),
-    word: 0,
-};
+impl From<Result<Rescued, Refusal>> for Saved {
+    ghost from_gives = { λ answer saved. saved ≡ rescued_given answer };
 
-pub fn rescued(answer: Rescued) -> Saved
-    ensures { result ≡ rescued_given answer }
-{
-    match answer {
-        Rescued::Done { bytes, dropped } => Saved::new(NOT_REFUSED, bytes, dropped),
-        Rescued::Refused(refusal) => Saved::new(number_of(refusal), 0, 0),
+    fn from(answer: Result<Rescued, Refusal>) -> Saved {
+        match answer {
+            Ok(rescued) => Saved::new(NOT_REFUSED, rescued.bytes, rescued.dropped),
+            Err(refusal) => Saved::new(refusal.into(), 0, 0),
+        }
     }
 }
 

@@ -1,5 +1,6 @@
 -- The whole: the size, the rows, and cleared fates.
 -- Assumes nothing.
+use Rattle.std.specs.Prelude.{Result, Ok, Err}
 use Prim.Native.Nat.{ℕ, ◌-◌, ◌≤◌}
 use mathlib.Core.Path.{◌≡◌, refl, sym, ap, ◌∙◌}
 use mathlib.Core.Bool.{true, false}
@@ -9,7 +10,6 @@ use lib.ListN.{length, replicate, length-map}
 use Rattle.rules.specs.Table.{Node, row_count, nodes, node}
 use Rattle.rules.specs.Refusals.{unless_refused, bad_size}
 use Rattle.rules.specs.declared.Refusal.{Refusal}
-use Rattle.rules.specs.declared.Salvaged.{Salvaged}
 use Rattle.rules.proofs.Table.{length-nodes}
 use Rattle.rules.proofs.Refusals.{first_alone}
 use Rattle.buffers.specs.Writes.{cleared}
@@ -19,6 +19,7 @@ use Rattle.fates.specs.Fates.{Fated}
 use Rattle.salvage_outputs.specs.Decided.{decided, Decided}
 use Rattle.fates.proofs.Laws.{fated-start}
 use Rattle.row_checks.specs.Judging.{rows_fault, judged, Judged}
+use Rattle.rules.specs.declared.Salvaged.{Salvaged}
 
 -- Fates that are cleared, and those that are lent.
 pub fated-cleared : (ns : List Node) (before : List ℕ) {fates : List ℕ} → fates ≡ cleared before 0 → Fated ns fates 0
@@ -29,7 +30,7 @@ fated-lent ns fates e = rw e (fated-start ns (length fates))
 
 module _ (table pool : List ℕ) where
   -- 1
-  pub decided-size : bad_size table pool ≡ true → (fates : List ℕ) → Decided table pool fates (Salvaged.Refused Refusal.Size)
+  pub decided-size : bad_size table pool ≡ true → (fates : List ℕ) → Decided table pool fates (Err Refusal.Size)
   unfolding decided fault_refusal
   decided-size e fates =
       let f : fault_refusal table pool ≡ some Refusal.Size = rw e refl in
@@ -50,14 +51,14 @@ module _ (table pool : List ℕ) where
   unfolding fault_refusal
   fault-rows e = rw e (sym (first_alone (rows_fault table pool)))
 
-  pub decided-rows : bad_size table pool ≡ false → {fates : List ℕ} {answer : Salvaged} → row_count table ≤ length fates → Judged table pool fates answer → Decided table pool fates answer
+  pub decided-rows : bad_size table pool ≡ false → {fates : List ℕ} {answer : Result Salvaged Refusal} → row_count table ≤ length fates → Judged table pool fates answer → Decided table pool fates answer
   unfolding decided judged
   decided-rows e room j =
       let f = fault-rows e in
       record {
         given =
             j.given
-            ∙ ap (λ (o : Option Refusal). unless_refused o Salvaged.Refused (Salvaged.Done (length (kept (nodes table pool) (row_count table))) (length (drops_below (nodes table pool) (row_count table))))) (sym f)
+            ∙ ap (λ (o : Option Refusal). unless_refused o Err (Ok (record { rows = length (kept (nodes table pool) (row_count table)); dropped = length (drops_below (nodes table pool) (row_count table)) }))) (sym f)
             ∙ rw (rows-kept, rows_dropped) refl;
         noted = λ n. room;
         fated = λ n. j.fated (sym f ∙ n);

@@ -21,13 +21,13 @@ pub fn judge(
     dictionary: &mut [u16],
     notes: &mut [u16],
     fates: &mut [u32],
-) -> Salvaged
+) -> Result<Salvaged, Refusal>
     requires lent { Lent table.now dictionary.old notes.old }
     requires fates_lent { FatesLent table.now fates.old }
     ensures { Decided table.now pool.now fates.new result }
 {
     if table_size::is_bad(table, pool) {
-        return Salvaged::Refused(Refusal::Size);
+        return Err(Refusal::Size);
     }
     let ascii = utf8::is_ascii(pool);
     let mut marks = [0; marks::WORDS];
@@ -44,7 +44,7 @@ fn judge_sized(
     dictionary: &mut [u16],
     notes: &mut [u16],
     fates: &mut [u32],
-) -> Salvaged
+) -> Result<Salvaged, Refusal>
     requires enough { Enough table.now pool.now dictionary.old notes.old }
     requires judging { Judging pool.now marks.now ascii }
     requires dictionary { Dictionary dictionary.old pool.now × (last_of dictionary.old ≤ 0) }
@@ -70,7 +70,7 @@ fn judge_hard(
     dictionary: &mut [u16],
     notes: &mut [u16],
     fates: &mut [u32],
-) -> Salvaged
+) -> Result<Salvaged, Refusal>
     requires enough { Enough table.now pool.now dictionary.old notes.old }
     requires judging { Judging pool.now marks.now ascii }
     requires table_in_bounds { row_count table.now ≤ length fates.old }

@@ -1,5 +1,6 @@
 -- What was decided, and what is left in the outputs.
 -- Assumes nothing.
+use Rattle.std.specs.Prelude.{Result, Ok, Err}
 use Prim.Native.Nat.{ℕ, ◌-◌, ◌*◌, ◌/◌, ◌≤◌, ◌<◌}
 use mathlib.Core.Path.{◌≡◌, refl, sym, ap, ◌∙◌}
 use mathlib.Core.Logic.{◌⊎◌, inl, inr}
@@ -16,7 +17,6 @@ use Rattle.rules.specs.Outputs.{padded}
 use Rattle.rules.specs.Answers.{salvaged_rows, salvaged_dropped}
 use Rattle.rules.specs.Refusals.{unless_refused}
 use Rattle.rules.specs.declared.Refusal.{Refusal}
-use Rattle.rules.specs.declared.Salvaged.{Salvaged}
 use Rattle.rules.proofs.Lists.{both_false, true-not-false}
 use Rattle.rules.proofs.Table.{length-nodes, length-words, node-nodes}
 use Rattle.buffers.specs.Writes.{cleared}
@@ -32,6 +32,7 @@ use Rattle.kept_table.specs.Kept.{kept_words}
 use Rattle.dropped_list.specs.Dropped.{dropped_words}
 use Rattle.salvage_outputs.specs.Filling.{Filling}
 use Rattle.salvage_outputs.proofs.Fates.{Behind, words_are, list-are}
+use Rattle.rules.specs.declared.Salvaged.{Salvaged}
 
 -- A list written to the start, and zeros behind it.
 pub front-padded : (out l : List ℕ) {out' out'' : List ℕ} {count : ℕ} → out' ≡ l ++ drop (length l) out → length out' ≡ length out → out'' ≡ cleared out' count → length l ≡ count → count ≤ length out → out'' ≡ padded (length out) l
@@ -53,9 +54,9 @@ unfolding listed
 listed-long [] = refl
 listed-long (x ∷ xs) = let rest = listed-long xs in omega (arith, rest)
 
-is_done : Salvaged → Bool
-is_done (Salvaged.Done rows dropped) = true
-is_done (Salvaged.Refused x) = false
+is_done : Result Salvaged Refusal → Bool
+is_done (Ok kept) = true
+is_done (Err x) = false
 
 -- A table without faults.
 module _ (table pool : List ℕ) (e : fault_refusal table pool ≡ none) where
@@ -70,45 +71,45 @@ module _ (table pool : List ℕ) (e : fault_refusal table pool ≡ none) where
       go (inl z) = inl (sym same ∙ z)
       go (inr p) = inr (rw (← same) p.0)
 
-module _ {table pool fates : List ℕ} {answer : Salvaged} (d : Decided table pool fates answer) where
+module _ {table pool fates : List ℕ} {answer : Result Salvaged Refusal} (d : Decided table pool fates answer) where
   abbrev ns : List Node
   ns = nodes table pool
 
   -- It is done, or refused.
-  done : {rows dropped : ℕ} → answer ≡ Salvaged.Done rows dropped → (fault_refusal table pool ≡ none) × (rows ≡ length (salvaged_nodes ns)) × (dropped ≡ length (drops ns))
+  done : {rows dropped : ℕ} → answer ≡ Ok (record { rows = rows; dropped = dropped }) → (fault_refusal table pool ≡ none) × (rows ≡ length (salvaged_nodes ns)) × (dropped ≡ length (drops ns))
   unfolding decided is_done salvaged_rows salvaged_dropped
   done {rows} {dropped} t = go (fault_refusal table pool) refl
     where
       go : (o : Option Refusal) → fault_refusal table pool ≡ o → (fault_refusal table pool ≡ none) × (rows ≡ length (salvaged_nodes ns)) × (dropped ≡ length (drops ns))
       go none e =
-          let both : Salvaged.Done rows dropped ≡ Salvaged.Done (length (salvaged_nodes ns)) (length (drops ns)) = sym t ∙ d.given ∙ ap (λ (o : Option Refusal). unless_refused o Salvaged.Refused (Salvaged.Done (length (salvaged_nodes ns)) (length (drops ns)))) e in
+          let both : ◌≡◌ {A = Result Salvaged Refusal} (Ok (record { rows = rows; dropped = dropped })) (Ok (record { rows = length (salvaged_nodes ns); dropped = length (drops ns) })) = sym t ∙ d.given ∙ ap (λ (o : Option Refusal). unless_refused o Err (Ok (record { rows = length (salvaged_nodes ns); dropped = length (drops ns) }))) e in
           (e, ap salvaged_rows both, ap salvaged_dropped both)
       go (some x) e =
-          let both : Salvaged.Done rows dropped ≡ Salvaged.Refused x = sym t ∙ d.given ∙ ap (λ (o : Option Refusal). unless_refused o Salvaged.Refused (Salvaged.Done (length (salvaged_nodes ns)) (length (drops ns)))) e in
+          let both : ◌≡◌ {A = Result Salvaged Refusal} (Ok (record { rows = rows; dropped = dropped })) (Err x) = sym t ∙ d.given ∙ ap (λ (o : Option Refusal). unless_refused o Err (Ok (record { rows = length (salvaged_nodes ns); dropped = length (drops ns) }))) e in
           absurd (true-not-false refl (ap is_done both))
 
-  refused : {x : Refusal} → answer ≡ Salvaged.Refused x → fault_refusal table pool ≡ some x
+  refused : {x : Refusal} → answer ≡ Err x → fault_refusal table pool ≡ some x
   unfolding decided is_done
   refused {x} t = go (fault_refusal table pool) refl
     where
       go : (o : Option Refusal) → fault_refusal table pool ≡ o → fault_refusal table pool ≡ some x
       go none e =
-          let both : Salvaged.Refused x ≡ Salvaged.Done (length (salvaged_nodes ns)) (length (drops ns)) = sym t ∙ d.given ∙ ap (λ (o : Option Refusal). unless_refused o Salvaged.Refused (Salvaged.Done (length (salvaged_nodes ns)) (length (drops ns)))) e in
+          let both : ◌≡◌ {A = Result Salvaged Refusal} (Err x) (Ok (record { rows = length (salvaged_nodes ns); dropped = length (drops ns) })) = sym t ∙ d.given ∙ ap (λ (o : Option Refusal). unless_refused o Err (Ok (record { rows = length (salvaged_nodes ns); dropped = length (drops ns) }))) e in
           absurd (true-not-false refl (sym (ap is_done both)))
       go (some y) e =
-          let both : Salvaged.Refused x ≡ Salvaged.Refused y = sym t ∙ d.given ∙ ap (λ (o : Option Refusal). unless_refused o Salvaged.Refused (Salvaged.Done (length (salvaged_nodes ns)) (length (drops ns)))) e in
+          let both : ◌≡◌ {A = Result Salvaged Refusal} (Err x) (Err y) = sym t ∙ d.given ∙ ap (λ (o : Option Refusal). unless_refused o Err (Ok (record { rows = length (salvaged_nodes ns); dropped = length (drops ns) }))) e in
           let same : some y ≡ some x = cc in e ∙ same
 
   module _ (table_size list_size : ℕ) where
-    pub outcome-refused : {x : Refusal} → answer ≡ Salvaged.Refused x → salvaged table pool table_size list_size ≡ record { answer = Salvaged.Refused x; table = replicate table_size 0; list = replicate list_size 0 }
+    pub outcome-refused : {x : Refusal} → answer ≡ Err x → salvaged table pool table_size list_size ≡ record { answer = Err x; table = replicate table_size 0; list = replicate list_size 0 }
     outcome-refused {x} t = salvage-refused table pool table_size list_size x (refused t)
 
-    module _ {rows dropped : ℕ} (t : answer ≡ Salvaged.Done rows dropped) {short : Bool} (s : short ≡ (ltb (table_size / WIDTH) rows || ltb (list_size / ENTRY) dropped)) where
+    module _ {rows dropped : ℕ} (t : answer ≡ Ok (record { rows = rows; dropped = dropped })) {short : Bool} (s : short ≡ (ltb (table_size / WIDTH) rows || ltb (list_size / ENTRY) dropped)) where
       is-short : short ≡ too_short table_size list_size ns
       unfolding too_short
       is-short = s ∙ rw ((done t).1, (done t).2) refl
 
-      pub outcome-short : short ≡ true → salvaged table pool table_size list_size ≡ record { answer = Salvaged.Refused Refusal.RowRoom; table = replicate table_size 0; list = replicate list_size 0 }
+      pub outcome-short : short ≡ true → salvaged table pool table_size list_size ≡ record { answer = Err Refusal.RowRoom; table = replicate table_size 0; list = replicate list_size 0 }
       outcome-short q = salvage-short table pool table_size list_size (done t).0 (sym is-short ∙ q)
 
       module _ (q : short ≡ false) where
@@ -141,7 +142,7 @@ module _ {table pool fates : List ℕ} {answer : Salvaged} (d : Decided table po
 
         pub outcome-done :
             {out list : List ℕ} → out ≡ padded table_size (kept_words table fates (row_count table)) → list ≡ padded list_size (dropped_words fates (row_count table))
-            → salvaged table pool table_size list_size ≡ record { answer = Salvaged.Done rows dropped; table = out; list = list }
+            → salvaged table pool table_size list_size ≡ record { answer = Ok (record { rows = rows; dropped = dropped }); table = out; list = list }
         outcome-done o l =
             salvage-fits table pool table_size list_size (done t).0 (sym is-short ∙ q)
             ∙ rw ((done t).1, (done t).2, o, l, words-filled, list-filled) refl

@@ -1,14 +1,15 @@
 -- What is known before the outputs are filled.
-use Rattle.std.specs.Prelude.{ℕ, ◌*◌, ◌≤◌, ◌≡◌, List, length}
+use Rattle.std.specs.Prelude.{ℕ, ◌*◌, ◌≤◌, ◌≡◌, List, length, Result}
 use Rattle.rules.specs.Table.{WIDTH, row_count}
-use Rattle.rules.specs.declared.Salvaged.{Salvaged}
 use Rattle.salvage.specs.Salvage.{ENTRY}
 use Rattle.salvage_outputs.specs.Decided.{Decided}
 use Rattle.kept_table.specs.Kept.{kept_words, Sorted}
 use Rattle.dropped_list.specs.Dropped.{dropped_words}
+use Rattle.rules.specs.declared.Refusal.{Refusal}
+use Rattle.rules.specs.declared.Salvaged.{Salvaged}
 
 -- The table was decided, with some pool.
-pub record SomeDecided (table fates : List ℕ) (answer : Salvaged) : Type 0 where
+pub record SomeDecided (table fates : List ℕ) (answer : Result Salvaged Refusal) : Type 0 where
   pub pool : List ℕ
   pub that : Decided table pool fates answer
 

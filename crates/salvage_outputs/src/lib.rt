@@ -1,10 +1,9 @@
 // The outputs of salvage, once the fate of each row is known: 10, or the kept rows and the list of the others.
 #![tactic(auto)]
 
-ghost use Rattle.std.specs.Prelude.{◌≡◌, ◌||◌, List, ℕ, ◌/◌, ltb, length, replicate};
+ghost use Rattle.std.specs.Prelude.{◌≡◌, ◌||◌, List, ℕ, ◌/◌, ltb, length, replicate, Err};
 ghost use Rattle.rules.specs.Table.{WIDTH, row_count};
 ghost use Rattle.rules.specs.Outputs.{padded};
-ghost use Rattle.rules.specs.declared.Salvaged.{Salvaged};
 ghost use Rattle.salvage.specs.Salvage.{ENTRY, salvaged};
 ghost use Rattle.salvage_outputs.specs.Decided.{Decided};
 ghost use Rattle.kept_table.specs.Kept.{kept_words};
@@ -15,26 +14,26 @@ use rules::{Refusal, Salvaged};
 
 // Writes the rows that are kept and the list of those that are dropped, if nothing is refused and both outputs have room.
 pub fn finish(
-    decided: Salvaged,
+    decided: Result<Salvaged, Refusal>,
     table: &[u32],
     fates: &[u32],
     out_table: &mut [u32],
     list: &mut [u32],
-) -> Salvaged
+) -> Result<Salvaged, Refusal>
     requires { SomeDecided table.now fates.now decided }
     ensures by_index { (pool : List ℕ) → Decided table.now pool fates.now decided → result ≡ (salvaged table.now pool (length out_table.old) (length list.old)).answer }
     ensures by_index_2 { (pool : List ℕ) → Decided table.now pool fates.now decided → out_table.new ≡ (salvaged table.now pool (length out_table.old) (length list.old)).table }
     ensures by_index_3 { (pool : List ℕ) → Decided table.now pool fates.now decided → list.new ≡ (salvaged table.now pool (length out_table.old) (length list.old)).list }
 {
     match decided {
-        Salvaged::Done { rows, dropped } => {
-            if is_short(rows, dropped, out_table.len(), list.len()) {
+        Ok(kept) => {
+            if is_short(kept.rows, kept.dropped, out_table.len(), list.len()) {
                 return refuse(out_table, list, Refusal::RowRoom);
             }
-            fill(table, fates, rows, dropped, out_table, list);
-            Salvaged::Done { rows, dropped }
+            fill(table, fates, kept.rows, kept.dropped, out_table, list);
+            decided
         }
-        Salvaged::Refused(x) => refuse(out_table, list, x),
+        Err(x) => refuse(out_table, list, x),
     }
 }
 
@@ -70,12 +69,12 @@ fn fill(
 }
 
 // Refuses, and clears both outputs.
-fn refuse(out_table: &mut [u32], list: &mut [u32], why: Refusal) -> Salvaged
-    ensures value { result ≡ Salvaged.Refused why }
+fn refuse(out_table: &mut [u32], list: &mut [u32], why: Refusal) -> Result<Salvaged, Refusal>
+    ensures value { result ≡ Err why }
     ensures out_table_after { out_table.new ≡ replicate (length out_table.old) 0 }
     ensures list_after { list.new ≡ replicate (length list.old) 0 }
 {
     buffers::clear_words(out_table, 0);
     buffers::clear_words(list, 0);
-    Salvaged::Refused(why)
+    Err(why)
 }

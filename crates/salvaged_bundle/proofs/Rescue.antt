@@ -1,5 +1,6 @@
 -- What salvage left tells what the bundle is refused for, or what it is.
 -- Assumes nothing.
+use Rattle.std.specs.Prelude.{Result, Ok, Err}
 use Prim.Native.Nat.{ℕ, ◌-◌, ◌*◌, ◌/◌, ◌≤◌}
 use mathlib.Core.Path.{◌≡◌, refl, sym, ap, ◌∙◌}
 use mathlib.Core.Bool.{Bool, true, false}
@@ -16,9 +17,6 @@ use Rattle.rules.specs.Outputs.{padded}
 use Rattle.rules.specs.Answers.{salvaged_rows, salvaged_dropped}
 use Rattle.rules.specs.Refusals.{refused_if, unless_refused}
 use Rattle.rules.specs.declared.Refusal.{Refusal}
-use Rattle.rules.specs.declared.Salvaged.{Salvaged}
-use Rattle.rules.specs.declared.Written.{Written}
-use Rattle.rules.specs.declared.Rescued.{Rescued}
 use Rattle.rules.proofs.Lists.{by_cases, true-not-false}
 use Rattle.rules.proofs.Table.{length-nodes, length-words}
 use Rattle.rules.proofs.Refusals.{all_none}
@@ -31,20 +29,22 @@ use Rattle.salvage.specs.Salvage.{new_parent, with_parent, salvaged_nodes, drops
 use Rattle.dropped_rows.proofs.Kept.{few}
 use Rattle.salvage.proofs.Result.{success, passes}
 use Rattle.salvaged_bundle.specs.Kept.{Kept}
+use Rattle.rules.specs.declared.Salvaged.{Salvaged}
+use Rattle.rules.specs.declared.Rescued.{Rescued}
 
-is_done : Salvaged → Bool
-is_done (Salvaged.Done rows dropped) = true
-is_done (Salvaged.Refused x) = false
+is_done : Result Salvaged Refusal → Bool
+is_done (Ok kept) = true
+is_done (Err x) = false
 
-is_written : Written → Bool
-is_written (Written.Done bytes) = true
-is_written (Written.Refused x) = false
+is_written : Result ℕ Refusal → Bool
+is_written (Ok bytes) = true
+is_written (Err x) = false
 
 -- An output that is cleared.
 pub all-zero : (out : List ℕ) {out' : List ℕ} → out' ≡ cleared out 0 → out' ≡ replicate (length out) 0
 all-zero out c = let n : length out - 0 ≡ length out = omega arith in c ∙ ap (λ (k : ℕ). replicate k 0) n
 
-outcome-alike : {a b : Rescued} {c d e f : List ℕ} → a ≡ b → c ≡ d → e ≡ f → ◌≡◌ {A = RescueOutcome} (record { answer = a; bytes = c; list = e }) (record { answer = b; bytes = d; list = f })
+outcome-alike : {a b : Result Rescued Refusal} {c d e f : List ℕ} → a ≡ b → c ≡ d → e ≡ f → ◌≡◌ {A = RescueOutcome} (record { answer = a; bytes = c; list = e }) (record { answer = b; bytes = d; list = f })
 outcome-alike p q r = rw (p, q, r) refl
 
 -- No more rows are kept than there are.
@@ -62,7 +62,7 @@ same-room table pool a b list_size h k =
     let n = length (salvaged_nodes (nodes table pool)) in
     rw (le-ltb (a / WIDTH) n (le_trans (rows_few table pool) h), le-ltb (b / WIDTH) n (le_trans (rows_few table pool) k)) refl
 
-module _ {answer : Salvaged} {left pool list table : List ℕ} (k : Kept answer left pool list table) where
+module _ {answer : Result Salvaged Refusal} {left pool list table : List ℕ} (k : Kept answer left pool list table) where
   abbrev ns : List Node
   ns = nodes table pool
 
@@ -70,7 +70,7 @@ module _ {answer : Salvaged} {left pool list table : List ℕ} (k : Kept answer 
   bundle = write_bundle (words (salvaged_nodes ns)) pool
 
   abbrev refused : Refusal → SalvageOutcome
-  refused x = record { answer = Salvaged.Refused x; table = replicate (length left) 0; list = replicate (length list) 0 }
+  refused x = record { answer = Err x; table = replicate (length left) 0; list = replicate (length list) 0 }
 
   whole_room : salvage_refusal table pool (length left) (length list) ≡ salvage_refusal table pool (WIDTH * MOST_ROWS) (length list)
   whole_room = let few = k.few in same-room table pool (length left) (WIDTH * MOST_ROWS) (length list) k.room (omega arith)
@@ -81,24 +81,24 @@ module _ {answer : Salvaged} {left pool list table : List ℕ} (k : Kept answer 
   told o e = ap (λ (p : Option Refusal). unless_refused p refused (success table pool (length left) (length list))) e
 
   -- Salvage refused.
-  pub salvage-refused : {x : Refusal} → answer ≡ Salvaged.Refused x → salvage_refusal table pool (WIDTH * MOST_ROWS) (length list) ≡ some x
+  pub salvage-refused : {x : Refusal} → answer ≡ Err x → salvage_refusal table pool (WIDTH * MOST_ROWS) (length list) ≡ some x
   unfolding is_done
   salvage-refused {x} t = sym whole_room ∙ go (salvage_refusal table pool (length left) (length list)) refl
     where
       go : (o : Option Refusal) → salvage_refusal table pool (length left) (length list) ≡ o → salvage_refusal table pool (length left) (length list) ≡ some x
       go none e =
-          let both : Salvaged.Refused x ≡ Salvaged.Done (length (salvaged_nodes ns)) (length (drops ns)) = sym t ∙ k.given ∙ ap (λ (o : SalvageOutcome). o.answer) (told none e) in
+          let both : ◌≡◌ {A = Result Salvaged Refusal} (Err x) (Ok (record { rows = length (salvaged_nodes ns); dropped = length (drops ns) })) = sym t ∙ k.given ∙ ap (λ (o : SalvageOutcome). o.answer) (told none e) in
           absurd (true-not-false refl (sym (ap is_done both)))
       go (some y) e =
-          let both : Salvaged.Refused x ≡ Salvaged.Refused y = sym t ∙ k.given ∙ ap (λ (o : SalvageOutcome). o.answer) (told (some y) e) in
+          let both : ◌≡◌ {A = Result Salvaged Refusal} (Err x) (Err y) = sym t ∙ k.given ∙ ap (λ (o : SalvageOutcome). o.answer) (told (some y) e) in
           let same : some y ≡ some x = cc in e ∙ same
 
-  pub rescue-refused : {x : Refusal} → answer ≡ Salvaged.Refused x → (size : ℕ) → rescued table pool size (length list) ≡ rescue_refused size (length list) x
+  pub rescue-refused : {x : Refusal} → answer ≡ Err x → (size : ℕ) → rescued table pool size (length list) ≡ rescue_refused size (length list) x
   unfolding rescued
   rescue-refused t size = rw (salvage-refused t) refl
 
   -- Salvage was done.
-  module _ {rows dropped : ℕ} (t : answer ≡ Salvaged.Done rows dropped) where
+  module _ {rows dropped : ℕ} (t : answer ≡ Ok (record { rows = rows; dropped = dropped })) where
     unrefused-done : salvage_refusal table pool (length left) (length list) ≡ none
     unfolding is_done
     unrefused-done = go (salvage_refusal table pool (length left) (length list)) refl
@@ -106,13 +106,13 @@ module _ {answer : Salvaged} {left pool list table : List ℕ} (k : Kept answer 
         go : (o : Option Refusal) → salvage_refusal table pool (length left) (length list) ≡ o → salvage_refusal table pool (length left) (length list) ≡ none
         go none e = e
         go (some x) e =
-            let both : Salvaged.Done rows dropped ≡ Salvaged.Refused x = sym t ∙ k.given ∙ ap (λ (o : SalvageOutcome). o.answer) (told (some x) e) in
+            let both : ◌≡◌ {A = Result Salvaged Refusal} (Ok (record { rows = rows; dropped = dropped })) (Err x) = sym t ∙ k.given ∙ ap (λ (o : SalvageOutcome). o.answer) (told (some x) e) in
             absurd (true-not-false refl (ap is_done both))
 
     done : salvaged table pool (length left) (length list) ≡ success table pool (length left) (length list)
     done = told none unrefused-done
 
-    both : Salvaged.Done rows dropped ≡ Salvaged.Done (length (salvaged_nodes ns)) (length (drops ns))
+    both : ◌≡◌ {A = Result Salvaged Refusal} (Ok (record { rows = rows; dropped = dropped })) (Ok (record { rows = length (salvaged_nodes ns); dropped = length (drops ns) }))
     both = sym t ∙ k.given ∙ ap (λ (o : SalvageOutcome). o.answer) done
 
     rows_are : rows ≡ length (salvaged_nodes ns)
@@ -141,25 +141,25 @@ module _ {answer : Salvaged} {left pool list table : List ℕ} (k : Kept answer 
     kept-sized = (unrefused (words (salvaged_nodes ns)) pool (passes table pool clear)).size
 
     -- The bundle is written, or there is no room for it.
-    module _ (size : ℕ) {part : List ℕ} (at : part ≡ take (WIDTH * rows) left) {wrote : Written} (given : wrote ≡ (bundle_written none size (write_bundle part pool)).answer) where
+    module _ (size : ℕ) {part : List ℕ} (at : part ≡ take (WIDTH * rows) left) {wrote : Result ℕ Refusal} (given : wrote ≡ (bundle_written none size (write_bundle part pool)).answer) where
       w : wrote ≡ (bundle_written none size bundle).answer
       w = given ∙ ap (λ (l : List ℕ). (bundle_written none size (write_bundle l pool)).answer) (at ∙ kept-words)
 
-      no_room : {x : Refusal} → wrote ≡ Written.Refused x → (ltb size (length bundle) ≡ true) × (x ≡ Refusal.BundleRoom)
+      no_room : {x : Refusal} → wrote ≡ Err x → (ltb size (length bundle) ≡ true) × (x ≡ Refusal.BundleRoom)
       unfolding bundle_written write_refused write_done is_written
       no_room {x} q =
           by_cases (ltb size (length bundle))
-          (λ l. let b : Written.Refused x ≡ Written.Refused Refusal.BundleRoom = sym q ∙ w ∙ rw l refl in (l, cc))
-          (λ l. let b : Written.Refused x ≡ Written.Done (length bundle) = sym q ∙ w ∙ rw l refl in absurd (true-not-false refl (sym (ap is_written b))))
+          (λ l. let b : ◌≡◌ {A = Result ℕ Refusal} (Err x) (Err Refusal.BundleRoom) = sym q ∙ w ∙ rw l refl in (l, cc))
+          (λ l. let b : ◌≡◌ {A = Result ℕ Refusal} (Err x) (Ok (length bundle)) = sym q ∙ w ∙ rw l refl in absurd (true-not-false refl (sym (ap is_written b))))
 
-      has_room : {bytes : ℕ} → wrote ≡ Written.Done bytes → (ltb size (length bundle) ≡ false) × (bytes ≡ length bundle)
+      has_room : {bytes : ℕ} → wrote ≡ Ok bytes → (ltb size (length bundle) ≡ false) × (bytes ≡ length bundle)
       unfolding bundle_written write_refused write_done is_written
       has_room {bytes} q =
           by_cases (ltb size (length bundle))
-          (λ l. let b : Written.Done bytes ≡ Written.Refused Refusal.BundleRoom = sym q ∙ w ∙ rw l refl in absurd (true-not-false refl (ap is_written b)))
-          (λ l. let b : Written.Done bytes ≡ Written.Done (length bundle) = sym q ∙ w ∙ rw l refl in (l, cc))
+          (λ l. let b : ◌≡◌ {A = Result ℕ Refusal} (Ok bytes) (Err Refusal.BundleRoom) = sym q ∙ w ∙ rw l refl in absurd (true-not-false refl (ap is_written b)))
+          (λ l. let b : ◌≡◌ {A = Result ℕ Refusal} (Ok bytes) (Ok (length bundle)) = sym q ∙ w ∙ rw l refl in (l, cc))
 
-      pub rescue-short : {x : Refusal} → wrote ≡ Written.Refused x → rescued table pool size (length list) ≡ rescue_refused size (length list) x
+      pub rescue-short : {x : Refusal} → wrote ≡ Err x → rescued table pool size (length list) ≡ rescue_refused size (length list) x
       unfolding rescued
       rescue-short q = rw (sym whole_room ∙ unrefused-done, (no_room q).0, (no_room q).1) refl
 
@@ -167,11 +167,11 @@ module _ {answer : Salvaged} {left pool list table : List ℕ} (k : Kept answer 
       unfolding bundle_written write_done
       written-whole l = rw l refl
 
-      pub rescue-done : {bytes : ℕ} → wrote ≡ Written.Done bytes → {out : List ℕ} → out ≡ (bundle_written none size (write_bundle part pool)).bytes → rescued table pool size (length list) ≡ record { answer = Rescued.Done bytes dropped; bytes = out; list = list }
+      pub rescue-done : {bytes : ℕ} → wrote ≡ Ok bytes → {out : List ℕ} → out ≡ (bundle_written none size (write_bundle part pool)).bytes → rescued table pool size (length list) ≡ record { answer = Ok (record { bytes = bytes; dropped = dropped }); bytes = out; list = list }
       unfolding rescued
       rescue-done {bytes} q {out} o =
           let filled : out ≡ padded size bundle = o ∙ ap (λ (l : List ℕ). (bundle_written none size (write_bundle l pool)).bytes) (at ∙ kept-words) ∙ written-whole (has_room q).0 in
           let kept-list : list ≡ padded (length list) (listed (drops ns)) = k.entries ∙ ap (λ (p : SalvageOutcome). p.list) done in
-          let is : rescued table pool size (length list) ≡ record { answer = Rescued.Done (length bundle) (length (drops ns)); bytes = padded size bundle; list = padded (length list) (listed (drops ns)) } =
+          let is : rescued table pool size (length list) ≡ record { answer = Ok (record { bytes = length bundle; dropped = length (drops ns) }); bytes = padded size bundle; list = padded (length list) (listed (drops ns)) } =
           rw (sym whole_room ∙ unrefused-done, (has_room q).0) refl in
-          is ∙ outcome-alike (ap (λ (n : ℕ). Rescued.Done n (length (drops ns))) (sym (has_room q).1) ∙ ap (λ (n : ℕ). Rescued.Done bytes n) (sym dropped-are)) (sym filled) (sym kept-list)
+          is ∙ outcome-alike (ap (λ (n : ℕ). Ok (record { bytes = n; dropped = length (drops ns) })) (sym (has_room q).1) ∙ ap (λ (n : ℕ). Ok (record { bytes = bytes; dropped = n })) (sym dropped-are)) (sym filled) (sym kept-list)

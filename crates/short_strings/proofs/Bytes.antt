@@ -1,14 +1,13 @@
 -- Equality of byte strings goes byte by byte.
 -- Assumes nothing.
-use Prim.Native.Nat.{ℕ, zero, suc, ◌+◌, ◌-◌, ◌≤◌, ◌<◌}
+use Prim.Native.Nat.{ℕ, zero, suc, ◌+◌, ◌-◌, ◌≤◌}
 use mathlib.Core.Path.{◌≡◌, refl, sym, ap, ◌∙◌}
-use mathlib.Core.Bool.{Bool, true, false, ◌&&◌, and_assoc, and-true}
+use mathlib.Core.Bool.{true, false, ◌&&◌, and_assoc, and-true}
 use mathlib.Core.List.{List}
 use native.Mathlib.Numerals.{add-one}
 use native.Mathlib.Omega.{arith}
-use borrow.Author.Tests.{eq-eqb}
 use lib.Dec.{eqb}
-use lib.ListN.{length, get_or, take, drop, length-take, length-drop, drop_of_length-le}
+use lib.ListN.{length, get_or, take, drop, drop_of_length-le}
 use lib.Seq.{drop-cons, drop-drop}
 use Rattle.rules.specs.Lists.{same_bytes}
 use Rattle.rules.specs.Table.{part}
@@ -40,11 +39,6 @@ module _ (a b : List ℕ) where
         behind = sym (end-then-front (drop (i - n) a) (drop (i - n) b) n) ∙ true-both rest group;
       }
 
-  pub equal-byte : (i : ℕ) → 0 < i → EqualFrom a b i → get_or a (i - 1) 0 ≡ get_or b (i - 1) 0 → EqualFrom a b (i - 1)
-  equal-byte i h from byte =
-      equal-group 1 i h from
-      (rw (drop-cons a (i - 1) 0 (omega arith), drop-cons b (i - 1) 0 (omega arith), and-true) (eq-eqb (get_or a (i - 1) 0) (get_or b (i - 1) 0) byte))
-
   pub equal-whole : (i : ℕ) → i ≤ 0 → EqualFrom a b i → true ≡ same_bytes a b
   equal-whole zero h from = sym from.behind
   equal-whole (suc i) h from = absurd (omega arith)
@@ -65,18 +59,6 @@ module _ (a b : List ℕ) where
       let two : i + 2 ≡ suc (suc i) = omega arith in
       let three : i + 3 ≡ suc (suc (suc i)) = omega arith in
       rw (add-one, two, three, drop-cons a i 0 (omega arith), drop-cons b i 0 (omega arith), drop-cons a (suc i) 0 (omega arith), drop-cons b (suc i) 0 (omega arith), drop-cons a (suc (suc i)) 0 (omega arith), drop-cons b (suc (suc i)) 0 (omega arith), drop-cons a (suc (suc (suc i))) 0 (omega arith), drop-cons b (suc (suc (suc i))) 0 (omega arith), and_assoc, and_assoc, and-true)
-
--- What is left of two strings of one length is compared byte by byte.
-module _ (a b : List ℕ) (seen : Bool) (i : ℕ) (level : length a ≡ length b) where
-  pub rest-byte : i < length a → ((seen && eqb (get_or a i 0) (get_or b i 0)) && same_bytes (drop (i + 1) a) (drop (i + 1) b)) ≡ (seen && same_bytes (drop i a) (drop i b))
-  rest-byte h = rw (and_assoc, add-one, drop-cons a i 0 h, drop-cons b i 0 (omega arith)) refl
-
-  pub rest_end : length a ≤ i → (seen && same_bytes (drop i a) (drop i b)) ≡ seen
-  rest_end h = rw (drop_of_length-le a {i = i} h, drop_of_length-le b {i = i} (omega arith), and-true) refl
-
--- Parts of strings of one length have one length.
-pub part-level : (a b : List ℕ) (n i : ℕ) → length a ≡ length b → length (part a i n) ≡ length (part b i n)
-part-level a b n i level = rw (length-take, length-drop, length-take, length-drop, level) refl
 
 -- The same from the start of a group on, where they are behind it and the group is.
 pub group-before : (a b : List ℕ) (n j : ℕ) {i : ℕ} → j + n ≡ i → EqualFrom a b i → same_bytes (part a j n) (part b j n) ≡ true → EqualFrom a b j

@@ -5,23 +5,21 @@ ghost use Rattle.std.specs.Prelude.{◌≡◌, ◌+◌, ◌≤◌, length};
 ghost use Rattle.rules.specs.Lists.{same_bytes};
 ghost use Rattle.rules.specs.Table.{part};
 
-// The two byte strings are equal: their lengths first, and then from the end, single bytes down to a multiple of four, then fours.
+// The two byte strings are equal: their lengths first, and then from the end: the bytes behind the last group of four, then
+// the groups.
 pub fn same_short(a: &[u8], b: &[u8]) -> bool
     ensures { result ≡ same_bytes a.now b.now }
 {
-    let mut i = a.len();
-    if i != b.len() {
+    if a.len() != b.len() {
         return false;
     }
-    while i % 4 > 0 {
-        i -= 1;
-        if a[i] != b[i] {
-            return false;
-        }
+    let (a_fours, a_rest) = a.as_chunks::<4>();
+    let (b_fours, b_rest) = b.as_chunks::<4>();
+    if a_rest != b_rest {
+        return false;
     }
-    while i > 0 {
-        i -= 4;
-        if !same_four(a, b, i) {
+    for (a_four, b_four) in a_fours.iter().rev().zip(b_fours.iter().rev()) {
+        if a_four != b_four {
             return false;
         }
     }

@@ -14,6 +14,7 @@ pub fn same(a: &[u8], b: &[u8]) -> bool
     if i < 8 {
         return same_few(a, b);
     }
+    // A range that goes down like this, `(1..a.len() - 7).rev().step_by(8)`, is no plainer.
     while i > 8 {
         i -= 8;
         if !same_eight(a, b, i) {

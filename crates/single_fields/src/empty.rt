@@ -4,19 +4,19 @@ ghost use Rattle.rules.specs.Refusals.{must_be_empty, verdict};
 ghost use Rattle.rows.specs.Reading.{HasField};
 ghost use Rattle.single_fields.specs.Single.{length_refusal_at};
 
-use rules::{Checked, Refusal, Row};
+use rules::{Refusal, Row};
 
 // The refusal that the field draws whose offset is that word. Its length tells; the pool is not read.
-pub fn check(table: &[u32], pool: &[u8], row: Row, word: u32) -> Checked
+pub fn check(table: &[u32], pool: &[u8], row: Row, word: u32) -> Result<(), Refusal>
     requires { HasField table.now row.0 word }
     ensures { result ≡ verdict (length_refusal_at table.now pool.now row.0 word) }
 {
     let place = rows::place(table, row, word);
     let must = must_be_empty(rows::kind(table, row), word);
     if must & (place.length != 0) {
-        return Checked::Refused(Refusal::MustBeEmpty { row, word });
+        return Err(Refusal::MustBeEmpty { row, word });
     }
-    Checked::Accepted
+    Ok(())
 }
 
 // The field whose offset is that word must be empty in a row of this type.

@@ -5,10 +5,10 @@ ghost use Rattle.rows.specs.Reading.{HasField};
 ghost use Rattle.single_fields.specs.Single.{place_refusal_at};
 
 use rows::wide;
-use rules::{Checked, Refusal, Row};
+use rules::{Refusal, Row};
 
 // The refusal that the field draws whose offset is that word: 3 before 12.
-pub fn check(table: &[u32], pool: &[u8], row: Row, word: u32) -> Checked
+pub fn check(table: &[u32], pool: &[u8], row: Row, word: u32) -> Result<(), Refusal>
     requires { HasField table.now row.0 word }
     ensures { result ≡ verdict (place_refusal_at table.now pool.now row.0 word) }
 {
@@ -18,10 +18,10 @@ pub fn check(table: &[u32], pool: &[u8], row: Row, word: u32) -> Checked
     let past_pool = wide(offset) + wide(length) > pool.len();
     let without_length = (length == 0) & (offset != 0);
     if past_pool {
-        return Checked::Refused(Refusal::PastPool { row, word });
+        return Err(Refusal::PastPool { row, word });
     }
     if without_length {
-        return Checked::Refused(Refusal::OffsetWithoutLength { row, word });
+        return Err(Refusal::OffsetWithoutLength { row, word });
     }
-    Checked::Accepted
+    Ok(())
 }

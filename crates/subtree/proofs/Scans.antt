@@ -1,5 +1,6 @@
 -- Going through the rows for the lowest one that passes a test.
 -- Assumes nothing.
+use Rattle.std.specs.Prelude.{Ok, Err}
 use Prim.Native.Nat.{ℕ, ◌+◌, ◌≤◌, ◌<◌}
 use mathlib.Core.Path.{◌≡◌, refl, sym, ap, ◌∙◌}
 use mathlib.Core.Bool.{Bool, true, false}
@@ -10,7 +11,6 @@ use lib.ListN.{get_or}
 use Rattle.rules.specs.Table.{nodes, row_count}
 use Rattle.rules.specs.Refusals.{refused_if, lowest_refusal, verdict}
 use Rattle.rules.specs.declared.Refusal.{Refusal}
-use Rattle.rules.specs.declared.Checked.{Checked}
 use Rattle.rules.specs.declared.Row.{Row}
 use Rattle.rules.proofs.Refusals.{refusal_from, from_start, from-refused, from_next, from_end}
 use Rattle.rules.proofs.Table.{length-nodes}
@@ -34,13 +34,13 @@ module _ (table pool : List ℕ) (test : ℕ → Bool) (refusal : Row → Refusa
 
   module _ (r : ℕ) (scanning : Scanning r) where
     module _ (inside : r < row_count table) (is : Bool) (told : is ≡ test r) where
-      pub scan-found : is ≡ true → verdict lowest ≡ Checked.Refused (refusal (record { 0 = r }))
+      pub scan-found : is ≡ true → verdict lowest ≡ Err (refusal (record { 0 = r }))
       scan-found e = ap verdict (scanning ∙ from-refused drawn (row_count table) r inside (refusal (record { 0 = r })) (rw (sym told ∙ e) refl))
 
       pub scan-next : is ≡ false → Scanning (r + 1)
       scan-next e = scanning ∙ from_next drawn (row_count table) r inside (rw (sym told ∙ e) refl)
 
-    pub scan-end : row_count table ≤ r → verdict lowest ≡ Checked.Accepted
+    pub scan-end : row_count table ≤ r → verdict lowest ≡ Ok tt
     scan-end past = ap verdict (scanning ∙ from_end drawn (row_count table) r past)
 
 -- The flag of a row tells whether it is in the subtree.

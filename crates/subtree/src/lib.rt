@@ -30,10 +30,9 @@ pub fn flag_all(table: &[u32], flags: &mut [u16], element: Row)
     ensures { Flagged table.now flags.new element.0 (row_count table.now) }
 {
     let e = element.0;
-    let mut r: u32 = 0;
-    while rows::has_row(table, Row(r)) {
+    let rows = rows::row_count(table) as u32;
+    for r in 0..rows {
         flag(table, flags, Row(r), Row(e));
-        r += 1;
     }
 }
 

@@ -1,5 +1,6 @@
 -- What a subtree is refused for, from what the functions answer; and the arrays that they work in.
 -- Assumes nothing.
+use Rattle.std.specs.Prelude.{Result, Ok, Err, ⊤}
 use Prim.Native.Nat.{ℕ, ◌≤◌, ◌<◌}
 use mathlib.Core.Path.{◌≡◌, refl, sym, ap, ◌∙◌}
 use mathlib.Core.Bool.{true, false, ◌&&◌}
@@ -10,7 +11,6 @@ use lib.ListN.{length, replicate, length-replicate}
 use Rattle.rules.specs.Table.{MOST_ROWS, NONE, Node, nodes, node, row_count}
 use Rattle.rules.specs.Refusals.{first_refusal, verdict, check_refusal}
 use Rattle.rules.specs.declared.Refusal.{Refusal}
-use Rattle.rules.specs.declared.Checked.{Checked}
 use Rattle.rules.proofs.Refusals.{verdict-accepted, first-refused, first-passed}
 use Rattle.stacks.specs.Stacks.{NUMBERED, under_at}
 use Rattle.scopes.specs.Standing.{Standing}
@@ -70,18 +70,18 @@ module _ (ns : List Node) (start e : ℕ) where
   abbrev names : List (Option Refusal)
   names = lowest_row ns (undeclared ns e) Refusal.Undeclared ∷ lowest_row ns (is_inherited ns e) Refusal.Inherited ∷ []
 
-  module _ {markup : Checked} (first : markup ≡ verdict drawn20) where
-    pub subtree-markup : (x : Refusal) → markup ≡ Checked.Refused x → markup ≡ verdict (subtree_refusal ns start (some e))
+  module _ {markup : Result ⊤ Refusal} (first : markup ≡ verdict drawn20) where
+    pub subtree-markup : (x : Refusal) → markup ≡ Err x → markup ≡ verdict (subtree_refusal ns start (some e))
     unfolding subtree_refusal
     subtree-markup x is = first-refused drawn20 (drawn21 ∷ names) first x is
 
-    module _ (passed : markup ≡ Checked.Accepted) {characters : Checked} (second : characters ≡ verdict drawn21) where
+    module _ (passed : markup ≡ Ok tt) {characters : Result ⊤ Refusal} (second : characters ≡ verdict drawn21) where
       behind : subtree_refusal ns start (some e) ≡ first_refusal (drawn21 ∷ names)
       unfolding subtree_refusal
       behind = first-passed drawn20 (drawn21 ∷ names) first passed
 
-      pub subtree-characters : (x : Refusal) → characters ≡ Checked.Refused x → characters ≡ verdict (subtree_refusal ns start (some e))
+      pub subtree-characters : (x : Refusal) → characters ≡ Err x → characters ≡ verdict (subtree_refusal ns start (some e))
       subtree-characters x is = first-refused drawn21 names second x is ∙ ap verdict (sym behind)
 
-      pub subtree-names : characters ≡ Checked.Accepted → {last : Checked} → last ≡ verdict (first_refusal names) → last ≡ verdict (subtree_refusal ns start (some e))
+      pub subtree-names : characters ≡ Ok tt → {last : Result ⊤ Refusal} → last ≡ verdict (first_refusal names) → last ≡ verdict (subtree_refusal ns start (some e))
       subtree-names accepted third = third ∙ ap verdict (sym (behind ∙ first-passed drawn21 names second accepted))

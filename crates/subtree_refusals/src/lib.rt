@@ -11,7 +11,7 @@ ghost use Rattle.unsettled.specs.Walkable.{Prepared};
 ghost use Rattle.meanings.specs.Writable.{WritableTo};
 ghost use Rattle.subtree_refusals.specs.Unrefused.{Unrefused};
 
-use rules::{Checked, Row};
+use rules::{Refusal, Row};
 
 // A row before which every row of the whole table may be written. NONE, where the element at hand lies in no other one, the
 // pool holds no forbidden character, and every row may be written: then nothing is refused. From any other row on, rows may be
@@ -48,7 +48,7 @@ pub fn check_subtree(
     notes: &[u16],
     tops: &mut [u16],
     path: &mut [u16],
-) -> Checked
+) -> Result<(), Refusal>
     requires prepared { Prepared table.now pool.now notes.now tops.old path.old }
     requires element_bound { element.0 < row_count table.now }
     requires writable_to { WritableTo table.now pool.now first.0 }
@@ -56,13 +56,7 @@ pub fn check_subtree(
 {
     let mut flags = [0; rules::MOST_ROWS];
     subtree::flag_all(table, &mut flags, element);
-    let markup = markup_refusals::check_markup(table, &flags);
-    let Checked::Accepted = markup else {
-        return markup;
-    };
-    let characters = markup_refusals::check_characters(table, pool, &flags);
-    let Checked::Accepted = characters else {
-        return characters;
-    };
+    markup_refusals::check_markup(table, &flags)?;
+    markup_refusals::check_characters(table, pool, &flags)?;
     meanings::check_names(table, notes, tops, path, &flags, element, first)
 }

@@ -1,12 +1,13 @@
 -- Rows of a table: writing one.
 -- Assumes nothing.
-use Prim.Native.Nat.{ℕ, ◌+◌, ◌*◌, ◌/◌, ◌%◌, ◌≤◌, ◌<◌}
+use Prim.Native.Nat.{ℕ, zero, suc, ◌-◌, ◌+◌, ◌*◌, ◌/◌, ◌%◌, ◌≤◌, ◌<◌}
 use mathlib.Core.Path.{◌≡◌, refl, ◌∙◌, ap}
-use mathlib.Core.List.{List}
+use mathlib.Core.List.{List, []}
 use native.Mathlib.Omega.{arith}
 use lib.Dec.{eqb}
-use lib.ListN.{length, get_or, set, take, length-set}
-use lib.Seq.{get_or-set_same, get_or-set_other}
+use lib.ListN.{length, get_or, set, take, drop, length-set}
+use lib.Seq.{drop-drop, get_or-set_same, get_or-set_other}
+use Rattle.std.specs.Simd.{first_chunks}
 use borrow.Author.Tests.{eqb-true, eqb-false}
 use Rattle.rules.proofs.Lists.{by_cases}
 use Rattle.keyed.specs.Keyed.{between, sum_from}
@@ -83,6 +84,21 @@ sum-block base pool k from r f e =
     let n : 64 * k + 64 ≡ 64 * (k + 1) = omega arith in
     e ∙ ap (λ (h : ℕ). sum_from base h (between pool (64 * k) (64 * k + 64))) f ∙ sum-taken base pool 0 (64 * k) (64 * k + 64) (omega arith)
     ∙ ap (λ (i : ℕ). sum_from base 0 (take i pool)) n
+
+-- The blocks that a pool begins with.
+block-at : (n k : ℕ) (l : List ℕ) (i : ℕ) → i < k → get_or (first_chunks n k l) i [] ≡ take n (drop (n * i) l)
+block-at n zero l i h = absurd (omega arith)
+block-at n (suc k) l zero h = let none : n * 0 ≡ 0 = omega arith in rw none refl
+block-at n (suc k) l (suc i) h =
+    let more : n * suc i ≡ n + n * i = omega arith in
+    rw (more, ← drop-drop (n * i) n l) (block-at n k (drop n l) i (omega arith))
+
+pub block-is :
+    (l : List ℕ) {blocks : List (List ℕ)} (i : ℕ) → blocks ≡ first_chunks 64 (length l / 64) l → i < length l / 64
+    → get_or blocks i [] ≡ between l (64 * i) (64 * i + 64)
+block-is l i e h =
+    let size : 64 * i + 64 - 64 * i ≡ 64 = omega arith in
+    rw (e, size) (block-at 64 (length l / 64) l i h)
 
 -- Two numbers make a row.
 pub row_made : (t t1 t2 : List ℕ) (k a b : ℕ) → t1 ≡ put t (4 * k) a → t2 ≡ put t1 (4 * k + 2) b → t2 ≡ put_row t k a b

@@ -22,28 +22,12 @@ pub fn make(table: &mut [u16], pool: &[u8], bases: Pair)
     ensures filled { Filled pool.now bases.one bases.two table.new }
     ensures table_len_unchanged { length table.new ≡ length table.old }
 {
-    let base1 = bases.one;
-    let base2 = bases.two;
-    let mut sum1: u32 = 0;
-    let mut sum2: u32 = 0;
-    let mut k = 0;
-    put_row(table, k, sum1, sum2);
-    while pool.len() - BLOCK * k >= BLOCK {
-        let sums = keyed::summed(
-            &pool[BLOCK * k..BLOCK * k + BLOCK],
-            Pair {
-                one: base1,
-                two: base2,
-            },
-            Pair {
-                one: sum1,
-                two: sum2,
-            },
-        );
-        sum1 = sums.one;
-        sum2 = sums.two;
-        k += 1;
-        put_row(table, k, sum1, sum2);
+    let (blocks, _) = pool.as_chunks::<BLOCK>();
+    let mut sums = Pair { one: 0, two: 0 };
+    put_row(table, 0, sums.one, sums.two);
+    for (k, block) in blocks.iter().enumerate() {
+        sums = keyed::summed(block, bases, sums);
+        put_row(table, k + 1, sums.one, sums.two);
     }
 }
 

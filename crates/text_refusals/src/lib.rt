@@ -6,14 +6,7 @@ ghost use Rattle.beginning.specs.Ground.{Ground};
 ghost use Rattle.scope_preparation.specs.Arrays.{Cleared};
 ghost use Rattle.text_refusals.specs.Judging.{WrittenFrom};
 
-use rules::{Checked, NameId, Refusal, Row};
-
-// The element that is written, or a refusal.
-#[derive(Clone, Copy)]
-pub enum Judged {
-    Element(Row),
-    Refused(Refusal),
-}
+use rules::{NameId, Refusal, Row};
 
 // What writing from a row is refused for, whatever the output, where nothing is refused before 9 and xml has a number; or the
 // element that is written.
@@ -25,15 +18,13 @@ pub fn judge_asked(
     notes: &mut [u16],
     tops: &mut [u16],
     path: &mut [u16],
-) -> Judged
+) -> Result<Row, Refusal>
     requires grounded { Ground table.now pool.now row.0 notes.old xml.0 (120 ∷ 109 ∷ 108 ∷ []) }
     requires cleared { Cleared table.now tops.old path.old }
     ensures { WrittenFrom table.now pool.now row.0 result }
 {
     scope_preparation::prepare(table, xml, notes, path);
     let element = subtree::element_to_write(table, row);
-    match row_refusals::check(table, pool, row, element, notes, tops, path) {
-        Checked::Accepted => Judged::Element(element),
-        Checked::Refused(why) => Judged::Refused(why),
-    }
+    row_refusals::check(table, pool, row, element, notes, tops, path)?;
+    Ok(element)
 }

@@ -1,8 +1,7 @@
 -- A text in an output, or refusal 22: what is answered and left.
-use Rattle.std.specs.Prelude.{ℕ, List, length, ltb}
+use Rattle.std.specs.Prelude.{ℕ, List, length, ltb, Ok}
 use Rattle.rules.specs.Refusals.{refused_if, unless_refused}
 use Rattle.rules.specs.declared.Refusal.{Refusal}
-use Rattle.rules.specs.declared.Written.{Written}
 use Rattle.buffers.specs.Writes.{cleared}
 use Rattle.bundles.specs.Operations.{WriteOutcome, write_refused, write_done}
 
@@ -14,4 +13,4 @@ fitted size text = unless_refused (refused_if (ltb size (length text)) Refusal.T
 unfoldable pub completed : List ℕ → ℕ → WriteOutcome
 completed out end =
     unless_refused (refused_if (ltb (length out) end) Refusal.TextRoom) (write_refused (length out))
-    (record { answer = Written.Done end; bytes = cleared out end })
+    (record { answer = Ok end; bytes = cleared out end })

@@ -86,16 +86,7 @@ fn has_element(table: &[u32], parent: Row, row: Row) -> bool
     requires { row.0 ≤ row_count table.now }
     ensures { result ≡ any_before (under table.now parent.0) row.0 }
 {
-    let above = parent.0;
-    let first = row.0;
-    let mut r = first;
-    while r > 0 {
-        r -= 1;
-        if is_element_under(table, Row(above), Row(r)) {
-            return true;
-        }
-    }
-    false
+    (0..row.0).any(|earlier| is_element_under(table, parent, Row(earlier)))
 }
 
 // The row is an element under the parent.

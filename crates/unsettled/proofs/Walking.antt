@@ -171,8 +171,6 @@ module _ {table pool notes tops path : List ℕ} (w : Walkable table pool notes 
 
 -- The loop that begins at row `first` has come to row r.
 pub record Passing (table notes tops₀ path₀ flags : List ℕ) (first : ℕ) (tops path : List ℕ) (position r : ℕ) : Type 0 where
-  pub tops_length : length tops ≡ length tops₀
-  pub path_length : length path ≡ length path₀
   pub untouched : Untouched path₀ path
   pub standing : Standing table notes tops path position
   pub low : position ≤ row_count table

@@ -47,13 +47,12 @@ pub fn lowest_from(
     ensures { (pool : List ℕ) → Walkable table.now pool notes.now tops.old path.old → NoneBefore (unmeant (nodes table.now pool) flags.now) (row_count table.now) first.0 → Lowest (unmeant (nodes table.now pool) flags.now) (row_count table.now) result.0 }
 {
     let mut position = from.0;
-    let mut r = first.0;
-    while rows::has_row(table, Row(r)) {
+    let rows = rows::row_count(table) as u32;
+    for r in first.0..rows {
         position = follow(table, notes, tops, path, flags, Row(r), Position(position)).0;
         if row_meanings::is_unsettled(table, notes, tops, path, flags, Row(r)) {
             return Row(r);
         }
-        r += 1;
     }
     Row(rules::NONE)
 }

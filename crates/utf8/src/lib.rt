@@ -11,6 +11,7 @@ pub fn well_formed(bytes: &[u8]) -> bool
     ensures { result ≡ well_formed bytes.now }
 {
     let mut i = 0;
+    // Steps of one to eight bytes, so no range gives i.
     while i < bytes.len() {
         let count = step(bytes, i);
         if count == 0 {
@@ -26,10 +27,8 @@ pub fn is_ascii(bytes: &[u8]) -> bool
     ensures { result ≡ all_of is_ascii bytes.now }
 {
     let mut all = true;
-    let mut i = 0;
-    while i < bytes.len() {
-        all = all & (bytes[i] < 128);
-        i += 1;
+    for byte in bytes {
+        all = all & (*byte < 128);
     }
     all
 }
@@ -59,14 +58,12 @@ fn run(bytes: &[u8], i: usize) -> usize
     requires { (i < length bytes.now) × (get_or bytes.now i 0 < 128) }
     ensures { Step bytes.now i result }
 {
-    let mut j = i + 1;
-    while j < bytes.len() {
+    for j in i + 1..bytes.len() {
         if bytes[j] >= 128 {
             return j - i;
         }
-        j += 1;
     }
-    j - i
+    bytes.len() - i
 }
 
 // The length of the sequence at byte i, or 0 where none stands there.

@@ -48,10 +48,8 @@ fn sum_of_lengths(table: &[u32]) -> usize
     requires { row_count table.now ≤ MOST_ROWS }
 {
     let mut sum = 0;
-    let mut r: u32 = 0;
-    while rows::has_row(table, Row(r)) {
+    for r in 0..rows::row_count(table) as u32 {
         sum += length_at(table, Row(r));
-        r += 1;
     }
     sum
 }

@@ -36,9 +36,8 @@ pub fn descend(
         top = way[n];
         at = retreat(table, notes, tops, path, Position(at), Position(top)).0;
     }
-    while n > 0 {
-        n -= 1;
-        scopes::enter(table, notes, tops, path, Position(way[n]));
+    for step in way[..n].iter().rev() {
+        scopes::enter(table, notes, tops, path, Position(*step));
     }
 }
 

@@ -7,9 +7,7 @@ ghost use Rattle.table_size.specs.Small.{FEW_ROWS};
 ghost use Rattle.markup.specs.Writing.{text_written};
 ghost use Rattle.text_refusals.specs.Judging.{WrittenFrom};
 
-use beginning::Begun;
-use rules::{Row, Written};
-use text_refusals::Judged;
+use rules::{Refusal, Row};
 
 // The words of the arrays for a small table and for any: path and tops. Up to three names of each row have
 // numbers.
@@ -25,7 +23,7 @@ const TOPS: usize = stacks::TOPS * (3 * rules::MOST_ROWS + 1);
 // the bytes that it takes; the rest of the output is zero. A refusal, by the check's numbers and then 8,
 // 9, 20, 21, 23, 24 or 22, leaves the output all zero. What is small never comes where the large arrays
 // are.
-pub fn write(table: &[u32], pool: &[u8], row: Row, out: &mut [u8]) -> Written
+pub fn write(table: &[u32], pool: &[u8], row: Row, out: &mut [u8]) -> Result<usize, Refusal>
     ensures value { result ≡ (text_written table.now pool.now row.0 (length out.old)).answer }
     ensures out_after { out.new ≡ (text_written table.now pool.now row.0 (length out.old)).bytes }
 {
@@ -39,61 +37,53 @@ pub fn write(table: &[u32], pool: &[u8], row: Row, out: &mut [u8]) -> Written
 }
 
 // The same in arrays for any table. Few rows with a long pool are judged in small ones.
-fn write_any(table: &[u32], pool: &[u8], row: Row, out: &mut [u8]) -> Written
+fn write_any(table: &[u32], pool: &[u8], row: Row, out: &mut [u8]) -> Result<usize, Refusal>
     ensures value { result ≡ (text_written table.now pool.now row.0 (length out.old)).answer }
     ensures out_after { out.new ≡ (text_written table.now pool.now row.0 (length out.old)).bytes }
 {
     if rows::row_count(table) > table_size::FEW_ROWS {
         return match judge_any(table, pool, row) {
-            Judged::Element(element) => element_text::write_any(table, pool, element, out),
-            Judged::Refused(why) => bundles::refuse(out, why),
+            Ok(element) => element_text::write_any(table, pool, element, out),
+            Err(why) => bundles::refuse(out, why),
         };
     }
     match judge_few(table, pool, row) {
-        Judged::Element(element) => element_text::write_any(table, pool, element, out),
-        Judged::Refused(why) => bundles::refuse(out, why),
+        Ok(element) => element_text::write_any(table, pool, element, out),
+        Err(why) => bundles::refuse(out, why),
     }
 }
 
 // The same in small arrays, of a table of few rows; meant for a short pool.
-pub fn write_few(table: &[u32], pool: &[u8], row: Row, out: &mut [u8]) -> Written
+pub fn write_few(table: &[u32], pool: &[u8], row: Row, out: &mut [u8]) -> Result<usize, Refusal>
     requires { row_count table.now ≤ FEW_ROWS }
     ensures value { result ≡ (text_written table.now pool.now row.0 (length out.old)).answer }
     ensures out_after { out.new ≡ (text_written table.now pool.now row.0 (length out.old)).bytes }
 {
     match judge_few(table, pool, row) {
-        Judged::Element(element) => element_text::write_few(table, pool, element, out),
-        Judged::Refused(why) => bundles::refuse(out, why),
+        Ok(element) => element_text::write_few(table, pool, element, out),
+        Err(why) => bundles::refuse(out, why),
     }
 }
 
 // What writing from a row is refused for, whatever the output; or the element that is written.
-fn judge_any(table: &[u32], pool: &[u8], row: Row) -> Judged
+fn judge_any(table: &[u32], pool: &[u8], row: Row) -> Result<Row, Refusal>
     ensures { WrittenFrom table.now pool.now row.0 result }
 {
     let mut notes = [0; checker::NOTES];
     let mut tops = [0; TOPS];
     let mut path = [0; PATH];
-    match beginning::begin(table, pool, row, b"xml", &mut notes) {
-        Begun::Asked(xml) => text_refusals::judge_asked(
-            table, pool, row, xml, &mut notes, &mut tops, &mut path,
-        ),
-        Begun::Refused(earlier) => Judged::Refused(earlier),
-    }
+    let xml = beginning::begin(table, pool, row, b"xml", &mut notes)?;
+    text_refusals::judge_asked(table, pool, row, xml, &mut notes, &mut tops, &mut path)
 }
 
 // The same in small arrays, of a table of few rows.
-fn judge_few(table: &[u32], pool: &[u8], row: Row) -> Judged
+fn judge_few(table: &[u32], pool: &[u8], row: Row) -> Result<Row, Refusal>
     requires { row_count table.now ≤ FEW_ROWS }
     ensures { WrittenFrom table.now pool.now row.0 result }
 {
     let mut notes = [0; checker::SMALL_NOTES];
     let mut tops = [0; SMALL_TOPS];
     let mut path = [0; SMALL_PATH];
-    match beginning::begin_few(table, pool, row, b"xml", &mut notes) {
-        Begun::Asked(xml) => text_refusals::judge_asked(
-            table, pool, row, xml, &mut notes, &mut tops, &mut path,
-        ),
-        Begun::Refused(earlier) => Judged::Refused(earlier),
-    }
+    let xml = beginning::begin(table, pool, row, b"xml", &mut notes)?;
+    text_refusals::judge_asked(table, pool, row, xml, &mut notes, &mut tops, &mut path)
 }

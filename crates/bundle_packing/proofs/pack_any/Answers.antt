@@ -12,26 +12,26 @@ use Rattle.bundle_packing.proofs.pack_any.Goals as goal
 
 pub table-table-requires : goal.table-table-requires
 table-table-requires c =
-    let opened : Opens c.args.bundle.now c.read_rows.new.table c.in-Rows.n = c.read_rows.ensures.by_index _ c.in-Rows.is in
+    let opened : Opens c.args.bundle.now c.read_rows.new.table c.in-Ok.n = c.read_rows.ensures.by_index _ c.in-Ok.is in
     opened.room
 
 pub pool-pool-requires : goal.pool-pool-requires
 pool-pool-requires c =
-    let opened : Opens c.args.bundle.now c.read_rows.new.table c.in-Rows.n = c.read_rows.ensures.by_index _ c.in-Rows.is in
+    let opened : Opens c.args.bundle.now c.read_rows.new.table c.in-Ok.n = c.read_rows.ensures.by_index _ c.in-Ok.is in
     opened.inside
 
 pub pack_lent-requires : goal.pack_lent-requires
 pack_lent-requires c =
-    let opened : Opens c.args.bundle.now c.read_rows.new.table c.in-Rows.n = c.read_rows.ensures.by_index _ c.in-Rows.is in
+    let opened : Opens c.args.bundle.now c.read_rows.new.table c.in-Ok.n = c.read_rows.ensures.by_index _ c.in-Ok.is in
     let o = opened in
     let size = ap length c.table-table.ensures ∙ length-take-le _ _ o.room in
     let bound = o.few in record { lent = zeros-lent _ MOST_ROWS (λ h. h); table_in_bounds = omega (arith, size, bound) }
 
-pub returns-in-Rows : goal.returns-in-Rows
-returns-in-Rows c =
-    let opened : Opens c.args.bundle.now c.read_rows.new.table c.in-Rows.n = c.read_rows.ensures.by_index _ c.in-Rows.is in
+pub returns-in-Ok : goal.returns-in-Ok
+returns-in-Ok c =
+    let opened : Opens c.args.bundle.now c.read_rows.new.table c.in-Ok.n = c.read_rows.ensures.by_index _ c.in-Ok.is in
     let is = pack-open _ _ _ opened _ _ c.table-table.ensures c.pool-pool.ensures _ in record { value = c.pack_lent.ensures.0 ∙ ap (λ (o : WriteOutcome). o.answer) is; out_after = c.pack_lent.ensures.1 ∙ ap (λ (o : WriteOutcome). o.bytes) is }
 
-pub returns-in-Refused : goal.returns-in-Refused
-returns-in-Refused c =
-    let is = sym (pack-not-open _ _ (c.read_rows.ensures.bundle_value _ c.in-Refused.is) _) in record { value = c.refuse.ensures.value ∙ ap (λ (o : WriteOutcome). o.answer) is; out_after = c.refuse.ensures.out_after ∙ ap (λ (o : WriteOutcome). o.bytes) is }
+pub returns-in-Err : goal.returns-in-Err
+returns-in-Err c =
+    let is = sym (pack-not-open _ _ (c.read_rows.ensures.bundle_value _ c.in-Err.is) _) in record { value = c.refuse.ensures.value ∙ ap (λ (o : WriteOutcome). o.answer) is; out_after = c.refuse.ensures.out_after ∙ ap (λ (o : WriteOutcome). o.bytes) is }

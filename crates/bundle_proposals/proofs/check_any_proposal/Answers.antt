@@ -11,22 +11,22 @@ read_rows-requires c = new-room c.args.proposal.now MOST_ROWS 0 (λ header few. 
 
 pub table-rows-requires : goal.table-rows-requires
 table-rows-requires c =
-    let opened : Opens c.args.proposal.now c.read_rows.new.table c.in-Rows.n = c.read_rows.ensures.by_index _ c.in-Rows.is in
+    let opened : Opens c.args.proposal.now c.read_rows.new.table c.in-Ok.n = c.read_rows.ensures.by_index _ c.in-Ok.is in
     opened.room
 
 pub pool-requires : goal.pool-requires
 pool-requires c =
-    let opened : Opens c.args.proposal.now c.read_rows.new.table c.in-Rows.n = c.read_rows.ensures.by_index _ c.in-Rows.is in
+    let opened : Opens c.args.proposal.now c.read_rows.new.table c.in-Ok.n = c.read_rows.ensures.by_index _ c.in-Ok.is in
     opened.inside
 
 pub check_proposal-requires : goal.check_proposal-requires
 check_proposal-requires c = record { pool_value = c.requires.pool_value; noted = c.requires.noted }
 
-pub returns-in-Rows : goal.returns-in-Rows
-returns-in-Rows c =
-    let opened : Opens c.args.proposal.now c.read_rows.new.table c.in-Rows.n = c.read_rows.ensures.by_index _ c.in-Rows.is in
+pub returns-in-Ok : goal.returns-in-Ok
+returns-in-Ok c =
+    let opened : Opens c.args.proposal.now c.read_rows.new.table c.in-Ok.n = c.read_rows.ensures.by_index _ c.in-Ok.is in
     c.check_proposal.ensures ∙ proposal-open _ _ _ opened c.args.table.now c.args.pool.now _ _ c.table-rows.ensures c.pool.ensures
 
-pub returns-in-Refused : goal.returns-in-Refused
-returns-in-Refused c =
-    c.refuse_proposal.ensures ∙ proposal-unopened c.args.table.now c.args.pool.now c.args.proposal.now c.requires.pool_value _ (c.read_rows.ensures.bundle_value _ c.in-Refused.is)
+pub returns-in-Err : goal.returns-in-Err
+returns-in-Err c =
+    c.refuse_proposal.ensures ∙ proposal-unopened c.args.table.now c.args.pool.now c.args.proposal.now c.requires.pool_value _ (c.read_rows.ensures.bundle_value _ c.in-Err.is)

@@ -11,20 +11,20 @@ number_few-requires c =
     record { names_at_most = c.requires.0; has_room = (new-room c.args.original.now FEW_ROWS 0 (λ header few. c.requires.0 header), new-notes c.args.original.now FEW_ROWS 0 (λ header few. c.requires.0 header)) }
 
 pub pool-pool-requires : goal.pool-pool-requires
-pool-pool-requires c = (c.number_few.ensures.0 _ c.in-Rows.is).opens.inside
+pool-pool-requires c = (c.number_few.ensures.0 _ c.in-Ok.is).opens.inside
 
 pub table-requires : goal.table-requires
-table-requires c = (c.number_few.ensures.0 _ c.in-Rows.is).opens.room
+table-requires c = (c.number_few.ensures.0 _ c.in-Ok.is).opens.room
 
 pub check_few_proposal-requires : goal.check_few_proposal-requires
 check_few_proposal-requires c =
-    let h = handed _ _ _ _ (c.number_few.ensures.0 _ c.in-Rows.is) _ _ c.table.ensures c.pool-pool.ensures in record { names_at_most = (c.requires.1, h.0); noted = h.1 }
+    let h = handed _ _ _ _ (c.number_few.ensures.0 _ c.in-Ok.is) _ _ c.table.ensures c.pool-pool.ensures in record { names_at_most = (c.requires.1, h.0); noted = h.1 }
 
-pub returns-in-Rows : goal.returns-in-Rows
-returns-in-Rows c =
-    let o = c.number_few.ensures.0 _ c.in-Rows.is in
+pub returns-in-Ok : goal.returns-in-Ok
+returns-in-Ok c =
+    let o = c.number_few.ensures.0 _ c.in-Ok.is in
     c.check_few_proposal.ensures ∙ original-open _ _ _ o.opens c.args.proposal.now _ _ c.table.ensures c.pool-pool.ensures
 
-pub returns-in-Refused : goal.returns-in-Refused
-returns-in-Refused c =
-    c.refuse_original.ensures ∙ original-fails c.args.original.now c.args.proposal.now _ (c.number_few.ensures.1 _ c.in-Refused.is)
+pub returns-in-Err : goal.returns-in-Err
+returns-in-Err c =
+    c.refuse_original.ensures ∙ original-fails c.args.original.now c.args.proposal.now _ (c.number_few.ensures.1 _ c.in-Err.is)

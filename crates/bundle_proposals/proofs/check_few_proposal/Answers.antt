@@ -12,24 +12,24 @@ read_rows-requires c = new-room c.args.proposal.now FEW_ROWS 0 (λ header few. c
 
 pub table-rows-requires : goal.table-rows-requires
 table-rows-requires c =
-    let opened : Opens c.args.proposal.now c.read_rows.new.table c.in-Rows.n = c.read_rows.ensures.by_index _ c.in-Rows.is in
+    let opened : Opens c.args.proposal.now c.read_rows.new.table c.in-Ok.n = c.read_rows.ensures.by_index _ c.in-Ok.is in
     opened.room
 
 pub pool-requires : goal.pool-requires
 pool-requires c =
-    let opened : Opens c.args.proposal.now c.read_rows.new.table c.in-Rows.n = c.read_rows.ensures.by_index _ c.in-Rows.is in
+    let opened : Opens c.args.proposal.now c.read_rows.new.table c.in-Ok.n = c.read_rows.ensures.by_index _ c.in-Ok.is in
     opened.inside
 
 pub check_few-requires : goal.check_few-requires
 check_few-requires c =
-    let opened : Opens c.args.proposal.now c.read_rows.new.table c.in-Rows.n = c.read_rows.ensures.by_index _ c.in-Rows.is in
+    let opened : Opens c.args.proposal.now c.read_rows.new.table c.in-Ok.n = c.read_rows.ensures.by_index _ c.in-Ok.is in
     record { pool_value = (c.requires.names_at_most.1, few-rows _ _ _ opened _ c.table-rows.ensures FEW_ROWS c.requires.names_at_most.0); noted = c.requires.noted }
 
-pub returns-in-Rows : goal.returns-in-Rows
-returns-in-Rows c =
-    let opened : Opens c.args.proposal.now c.read_rows.new.table c.in-Rows.n = c.read_rows.ensures.by_index _ c.in-Rows.is in
+pub returns-in-Ok : goal.returns-in-Ok
+returns-in-Ok c =
+    let opened : Opens c.args.proposal.now c.read_rows.new.table c.in-Ok.n = c.read_rows.ensures.by_index _ c.in-Ok.is in
     c.check_few.ensures ∙ proposal-open _ _ _ opened c.args.table.now c.args.pool.now _ _ c.table-rows.ensures c.pool.ensures
 
-pub returns-in-Refused : goal.returns-in-Refused
-returns-in-Refused c =
-    c.refuse_proposal.ensures ∙ proposal-unopened c.args.table.now c.args.pool.now c.args.proposal.now c.requires.names_at_most.1 _ (c.read_rows.ensures.bundle_value _ c.in-Refused.is)
+pub returns-in-Err : goal.returns-in-Err
+returns-in-Err c =
+    c.refuse_proposal.ensures ∙ proposal-unopened c.args.table.now c.args.pool.now c.args.proposal.now c.requires.names_at_most.1 _ (c.read_rows.ensures.bundle_value _ c.in-Err.is)

@@ -1,6 +1,7 @@
 -- `number_any` meets its contract.
 use Rattle.bundle_proposals.proofs.Opening.{opening-fails}
 use Rattle.bundle_proposals.proofs.Numbering.{notes-room, fails, check-fails, numbered}
+use Rattle.std.proofs.lemmas.Result.{err_from_is_err_and}
 use Rattle.bundle_proposals.proofs.number_any.Goals as goal
 
 pub number_few-requires : goal.number_few-requires
@@ -13,26 +14,30 @@ pub read_rows-requires : goal.read_rows-requires
 read_rows-requires c = c.requires.0
 
 pub pool-pool-requires : goal.pool-pool-requires
-pool-pool-requires c = (c.read_rows.ensures.by_index _ c.in-Rows.is).inside
+pool-pool-requires c = (c.read_rows.ensures.by_index _ c.in_ok-rows.was).inside
 
 pub table-requires : goal.table-requires
-table-requires c = (c.read_rows.ensures.by_index _ c.in-Rows.is).room
+table-requires c = (c.read_rows.ensures.by_index _ c.in_ok-rows.was).room
 
 pub check-requires : goal.check-requires
 check-requires c =
-    let o = c.read_rows.ensures.by_index _ c.in-Rows.is in
+    let o = c.read_rows.ensures.by_index _ c.in_ok-rows.was in
     notes-room _ _ _ o _ c.table.ensures c.args.notes.now c.requires.1
 
-pub returns-in-Accepted : goal.returns-in-Accepted
-returns-in-Accepted c =
-    let o = c.read_rows.ensures.by_index _ c.in-Rows.is in
-    numbered _ _ _ o _ c.table.ensures _ _ c.pool-pool.ensures c.check.ensures.value c.in-Accepted.is (c.check.ensures.noted c.in-Accepted.is)
+pub returns : goal.returns
+returns c =
+    let o = c.read_rows.ensures.by_index _ c.in_ok-rows.was in
+    numbered _ _ _ o _ c.table.ensures _ _ c.pool-pool.ensures c.check.ensures.value c.in_ok-check.was (c.check.ensures.noted c.in_ok-check.was)
 
-pub returns-in-Refused-check : goal.returns-in-Refused-check
-returns-in-Refused-check c =
-    let o = c.read_rows.ensures.by_index _ c.in-Rows.is in
-    check-fails _ _ _ o _ c.table.ensures _ _ c.pool-pool.ensures c.check.ensures.value _ c.in-Refused-check.is
+pub returns-in_err-check : goal.returns-in_err-check
+returns-in_err-check c =
+    let p = err_from_is_err_and c.from_residual-in_err-check.result c.from_residual-in_err-check.ensures.1 in
+    rw (p.1, p.2)
+    (let o = c.read_rows.ensures.by_index _ c.in_ok-rows.was in
+    check-fails _ _ _ o _ c.table.ensures _ _ c.pool-pool.ensures c.check.ensures.value _ c.in_err-check.was)
 
-pub returns-in-Refused : goal.returns-in-Refused
-returns-in-Refused c =
-    fails c.args.bundle.now _ _ _ (opening-fails c.args.bundle.now _ (c.read_rows.ensures.bundle_value _ c.in-Refused.is))
+pub returns-in_err-rows : goal.returns-in_err-rows
+returns-in_err-rows c =
+    let p = err_from_is_err_and c.from_residual.result c.from_residual.ensures.1 in
+    rw (p.1, p.2)
+    (fails c.args.bundle.now _ _ _ (opening-fails c.args.bundle.now _ (c.read_rows.ensures.bundle_value _ c.in_err-rows.was)))

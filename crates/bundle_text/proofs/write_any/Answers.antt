@@ -13,19 +13,19 @@ read_rows-requires c = new-room c.args.bundle.now MOST_ROWS 0 (λ header few. fe
 
 pub pool-pool-requires : goal.pool-pool-requires
 pool-pool-requires c =
-    let opened : Opens c.args.bundle.now c.read_rows.new.table c.in-Rows.n = c.read_rows.ensures.by_index _ c.in-Rows.is in
+    let opened : Opens c.args.bundle.now c.read_rows.new.table c.in-Ok.n = c.read_rows.ensures.by_index _ c.in-Ok.is in
     opened.inside
 
 pub table-requires : goal.table-requires
 table-requires c =
-    let opened : Opens c.args.bundle.now c.read_rows.new.table c.in-Rows.n = c.read_rows.ensures.by_index _ c.in-Rows.is in
+    let opened : Opens c.args.bundle.now c.read_rows.new.table c.in-Ok.n = c.read_rows.ensures.by_index _ c.in-Ok.is in
     opened.room
 
-pub returns-in-Rows : goal.returns-in-Rows
-returns-in-Rows c =
-    let opened : Opens c.args.bundle.now c.read_rows.new.table c.in-Rows.n = c.read_rows.ensures.by_index _ c.in-Rows.is in
+pub returns-in-Ok : goal.returns-in-Ok
+returns-in-Ok c =
+    let opened : Opens c.args.bundle.now c.read_rows.new.table c.in-Ok.n = c.read_rows.ensures.by_index _ c.in-Ok.is in
     let is = over-table _ _ _ c.table.ensures ∙ text-open _ _ _ opened _ c.pool-pool.ensures _ _ in record { value = c.write.ensures.value ∙ ap (λ (o : WriteOutcome). o.answer) is; out_after = c.write.ensures.out_after ∙ ap (λ (o : WriteOutcome). o.bytes) is }
 
-pub returns-in-Refused : goal.returns-in-Refused
-returns-in-Refused c =
-    let is = sym (text-not-open _ _ (c.read_rows.ensures.bundle_value _ c.in-Refused.is) _ _) in record { value = c.refuse.ensures.value ∙ ap (λ (o : WriteOutcome). o.answer) is; out_after = c.refuse.ensures.out_after ∙ ap (λ (o : WriteOutcome). o.bytes) is }
+pub returns-in-Err : goal.returns-in-Err
+returns-in-Err c =
+    let is = sym (text-not-open _ _ (c.read_rows.ensures.bundle_value _ c.in-Err.is) _ _) in record { value = c.refuse.ensures.value ∙ ap (λ (o : WriteOutcome). o.answer) is; out_after = c.refuse.ensures.out_after ∙ ap (λ (o : WriteOutcome). o.bytes) is }

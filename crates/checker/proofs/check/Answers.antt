@@ -1,12 +1,12 @@
--- `check` meets its contract.
-use native.Mathlib.Omega.{arith}
+-- `checker::check` meets its contract.
+use Rattle.std.proofs.Common.{arith}
+use Rattle.rules.specs.Table.{MOST_ROWS}
+use Rattle.table_size.specs.Small.{FEW_ROWS}
+use Rattle.checker.proofs.Lending.{zeros-lent}
 use Rattle.checker.proofs.check.Goals as goal
 
-pub check_small-requires : goal.check_small-requires
-check_small-requires c = omega (arith, c.row_count.ensures, c.if-row_count-le-FEW_ROWS.true)
+pub check_in-requires-clause-lent : goal.check_in-requires-clause-lent
+check_in-requires-clause-lent c = zeros-lent c.args.table.now FEW_ROWS (λ _. omega (arith, c.row_count.ensures, c.if-row_count-le-FEW_ROWS.true))
 
-pub returns-then-row_count-le-FEW_ROWS : goal.returns-then-row_count-le-FEW_ROWS
-returns-then-row_count-le-FEW_ROWS c = c.check_small.ensures
-
-pub returns : goal.returns
-returns c = c.check_any.ensures
+pub check_in-requires-2-clause-lent : goal.check_in-requires-2-clause-lent
+check_in-requires-2-clause-lent c = zeros-lent c.args.table.now MOST_ROWS (λ h. h)

@@ -1,13 +1,8 @@
--- `make` meets its contract.
-use Prim.Native.Nat.{◌*◌, ◌≤◌}
-use mathlib.Core.Path.{◌≡◌}
-use lib.ListN.{length}
-use Rattle.ends.specs.Ends.{BLOCK, WORDS, Reach}
+-- `make` meets its contract. The invariant: the ends from block k on are right, and the last one is at hand.
+use Rattle.std.proofs.Common.{◌*◌}
+use Rattle.ends.specs.Ends.{BLOCK, Reach}
 use Rattle.ends.proofs.Reaching.{EndedFrom}
 use Rattle.ends.proofs.make.Given as goal
 
 abbrev pub invariant-loop-k : goal.invariant-loop-k
-invariant-loop-k l = (l.k ≤ WORDS) × (length l.ends ≡ length l.initial.ends) × Reach l.colons l.pool (BLOCK * l.k) l.end × EndedFrom l.colons l.pool l.ends l.k
-
-abbrev pub decreases-loop-k : goal.decreases-loop-k
-decreases-loop-k l = l.k
+invariant-loop-k l = record { last : Reach l.colons l.pool (BLOCK * l.k) l.end; later : EndedFrom l.colons l.pool l.ends l.k }

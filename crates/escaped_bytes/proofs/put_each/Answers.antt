@@ -1,31 +1,23 @@
-use mathlib.Core.Path.{refl}
+use Prim.Native.Nat.{◌+◌, ◌-◌}
+use mathlib.Core.Path.{◌≡◌}
 use native.Mathlib.Omega.{arith}
-use lib.ListN.{drop}
+use lib.ListN.{length, get_or, take, drop, length-drop}
+use lib.Seq.{get_or-drop}
+use Rattle.std.proofs.lemmas.List.{take_all}
 use Rattle.escapes.specs.Escapes.{escaped}
-use Rattle.escaped_bytes.proofs.Left.{left-start, left-byte, left_end, left-past}
+use Rattle.escaped_bytes.proofs.Left.{left-byte, left_end}
 use Rattle.escaped_bytes.proofs.put_each.Goals as goal
 
-pub loop-i-init : goal.loop-i-init
-loop-i-init c =
-    left-start c.args.quoted c.args.value.now (escaped c.args.quoted (drop c.args.from c.args.value.now)) c.args.out.now c.args.at c.args.from c.requires.1 refl
-
-pub shape_of-out-then-to-out : goal.shape_of-out-then-to-out
-shape_of-out-then-to-out c = c.loop-i.invariant.size
-
-pub returns-then-to-out : goal.returns-then-to-out
-returns-then-to-out c =
-    left-past c.args.quoted c.args.value.now (escaped c.args.quoted (drop c.args.from c.args.value.now)) c.args.out.now c.args.at c.loop-i.invariant (omega arith)
-
-pub put_byte-to-requires : goal.put_byte-to-requires
-put_byte-to-requires c = c.requires.0
-
-pub loop-i-preserved : goal.loop-i-preserved
-loop-i-preserved c =
-    left-byte c.args.quoted c.args.value.now (escaped c.args.quoted (drop c.args.from c.args.value.now)) c.args.out.now c.args.at c.loop-i.invariant (omega arith) c.put_byte-to.ensures
-
-pub shape_of-out : goal.shape_of-out
-shape_of-out c = c.loop-i.invariant.size
+pub loop-b-preserved : goal.loop-b-preserved
+loop-b-preserved c =
+    let value = c.args.value.now in
+    let from = c.args.from in
+    let k = c.loop-b.b-index in
+    let byte : get_or (take (length value - from) (drop from value)) k 0 ≡ get_or value (from + k) 0 = rw (take_all (length value - from) (drop from value) (omega (arith, length-drop from value))) (get_or-drop from value k 0) in
+    let next : from + (k + 1) ≡ from + k + 1 = omega arith in
+    rw next
+    (left-byte c.args.quoted value (escaped c.args.quoted (drop from value)) c.args.out.now c.args.at c.loop-b.invariant (omega arith) (rw byte at c.put_byte-to.ensures))
 
 pub returns : goal.returns
 returns c =
-    left_end c.args.quoted c.args.value.now (escaped c.args.quoted (drop c.args.from c.args.value.now)) c.args.out.now c.args.at c.loop-i.invariant (omega arith)
+    left_end c.args.quoted c.args.value.now (escaped c.args.quoted (drop c.args.from c.args.value.now)) c.args.out.now c.args.at c.loop-b.invariant (omega arith)

@@ -5,4 +5,4 @@ use Rattle.refusal_numbers.specs.declared.Number.{Number}
 use Rattle.fates.proofs.note.Goals as goal
 
 pub returns : goal.returns
-returns c = ap (λ (n : Number). set c.args.fates.now c.args.row.0 n.number) c.check_number-told.ensures
+returns c = ap (λ (n : Number). set c.args.fates.now c.args.row.0 n.number) c.from-told.ensures

@@ -4,6 +4,7 @@ use Rattle.rules.specs.Table.{nodes}
 use Rattle.pairs.proofs.Laws.{zeros-pairs}
 use Rattle.name_pairs.proofs.Laws.{zeros-met}
 use Rattle.kept_rows.proofs.Rows.{placed, kept-refused, kept-level2, kept-passed, refused-not}
+use Rattle.std.proofs.lemmas.Result.{err_from_is_err_and}
 use Rattle.kept_rows.proofs.check.Goals as goal
 
 pub check_kept-requires : goal.check_kept-requires
@@ -15,10 +16,12 @@ pub check_further-requires : goal.check_further-requires
 check_further-requires c =
     ((placed c.args.original.now c.args.pool.now c.requires.pool_value.0).few, (placed c.args.proposal.now c.args.other.now c.requires.pool_value.1).few)
 
-pub returns-in-Accepted : goal.returns-in-Accepted
-returns-in-Accepted c =
-    record { pool_value_2 = λ is. kept-level2 (nodes c.args.original.now c.args.pool.now) (nodes c.args.proposal.now c.args.other.now) c.check_kept.ensures c.in-Accepted.is; value = λ level. kept-passed (nodes c.args.original.now c.args.pool.now) (nodes c.args.proposal.now c.args.other.now) c.check_kept.ensures c.in-Accepted.is c.check_further.ensures }
+pub returns : goal.returns
+returns c =
+    record { pool_value_2 = λ is. kept-level2 (nodes c.args.original.now c.args.pool.now) (nodes c.args.proposal.now c.args.other.now) c.check_kept.ensures c.in_ok-check_kept.was; value = λ level. kept-passed (nodes c.args.original.now c.args.pool.now) (nodes c.args.proposal.now c.args.other.now) c.check_kept.ensures c.in_ok-check_kept.was c.check_further.ensures }
 
-pub returns-in-Refused : goal.returns-in-Refused
-returns-in-Refused c =
-    record { pool_value_2 = λ is. refused-not is; value = λ level. kept-refused (nodes c.args.original.now c.args.pool.now) (nodes c.args.proposal.now c.args.other.now) c.check_kept.ensures _ c.in-Refused.is level }
+pub returns-in_err-check_kept : goal.returns-in_err-check_kept
+returns-in_err-check_kept c =
+    let p = err_from_is_err_and c.from_residual.result c.from_residual.ensures.1 in
+    rw (p.1, p.2)
+    (record { pool_value_2 = λ is. refused-not is; value = λ level. kept-refused (nodes c.args.original.now c.args.pool.now) (nodes c.args.proposal.now c.args.other.now) c.check_kept.ensures _ c.in_err-check_kept.was level })

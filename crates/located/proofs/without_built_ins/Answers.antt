@@ -1,24 +1,32 @@
 -- `located::without_built_ins` meets its contract.
-use borrow.Author.Rules.{rules}
+use Rattle.std.proofs.Common.{sym, ap, ◌∙◌, Some, Ok}
 use Rattle.rules.specs.Lookups.{without_built_ins}
 use Rattle.located.proofs.without_built_ins.Goals as goal
 
-pub returns-in-At : goal.returns-in-At
+pub returns-in-Ok-Some-At : goal.returns-in-Ok-Some-At
 unfolding without_built_ins
-returns-in-At c = search rules
+returns-in-Ok-Some-At c =
+    let some = rw c.in-Ok-Some-At.is at c.in-Ok-Some-At.field-0-is in
+    sym (ap without_built_ins (c.in-Ok-Some-At.is ∙ ap Ok (some ∙ ap Some (rw (c.in-Ok-Some-At.is, some) at c.in-Ok-Some-At.field-0-0-is))))
 
-pub returns-in-Xml : goal.returns-in-Xml
+pub returns-in-Ok-Some-Xml : goal.returns-in-Ok-Some-Xml
 unfolding without_built_ins
-returns-in-Xml c = search rules
+returns-in-Ok-Some-Xml c =
+    let some = rw c.in-Ok-Some-Xml.is at c.in-Ok-Some-Xml.field-0-is in
+    sym (ap without_built_ins (c.in-Ok-Some-Xml.is ∙ ap Ok (some ∙ ap Some (rw (c.in-Ok-Some-Xml.is, some) at c.in-Ok-Some-Xml.field-0-0-is))))
 
-pub returns-in-Xmlns : goal.returns-in-Xmlns
+pub returns-in-Ok-Some-Xmlns : goal.returns-in-Ok-Some-Xmlns
 unfolding without_built_ins
-returns-in-Xmlns c = search rules
+returns-in-Ok-Some-Xmlns c =
+    let some = rw c.in-Ok-Some-Xmlns.is at c.in-Ok-Some-Xmlns.field-0-is in
+    sym (ap without_built_ins (c.in-Ok-Some-Xmlns.is ∙ ap Ok (some ∙ ap Some (rw (c.in-Ok-Some-Xmlns.is, some) at c.in-Ok-Some-Xmlns.field-0-0-is))))
 
-pub returns-in-Nothing : goal.returns-in-Nothing
+pub returns-in-Ok-None : goal.returns-in-Ok-None
 unfolding without_built_ins
-returns-in-Nothing c = search rules
+returns-in-Ok-None c =
+    sym (ap without_built_ins (c.in-Ok-None.is ∙ ap Ok (rw c.in-Ok-None.is at c.in-Ok-None.field-0-is)))
 
-pub returns-in-Refused : goal.returns-in-Refused
+pub returns-in-Err : goal.returns-in-Err
 unfolding without_built_ins
-returns-in-Refused c = search rules
+returns-in-Err c =
+    sym (ap without_built_ins c.in-Err.is)

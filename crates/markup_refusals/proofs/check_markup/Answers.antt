@@ -1,6 +1,6 @@
+use Prim.Native.Nat.{◌<◌, ◌≤◌}
 use native.Mathlib.Omega.{arith}
 use mathlib.Core.Path.{sym, ◌∙◌}
-use borrow.Author.Tests.{ltb-true, ltb-false}
 use Rattle.rules.specs.Table.{row_count}
 use Rattle.rules.specs.declared.Refusal.{Refusal}
 use Rattle.subtree.proofs.Scans.{scan-start, scan-found, scan-next, scan-end}
@@ -10,32 +10,17 @@ use Rattle.markup_refusals.proofs.check_markup.Goals as goal
 pub loop-r-init : goal.loop-r-init
 loop-r-init c = λ e pool flagged. scan-start c.args.table.now pool (foreign c.args.table.now pool e) Refusal.NotMarkup
 
-pub is_foreign-requires : goal.is_foreign-requires
-is_foreign-requires c =
-    let less = ltb-true c.loop-r.r (row_count c.args.table.now) (sym c.has_row.ensures ∙ c.loop-r-test.true) in
-    (less, c.requires.1)
-
 pub returns-then-is_foreign : goal.returns-then-is_foreign
 returns-then-is_foreign c =
-    let less = ltb-true c.loop-r.r (row_count c.args.table.now) (sym c.has_row.ensures ∙ c.loop-r-test.true) in
+    let less : c.loop-r.r < row_count c.args.table.now = omega arith in
     λ e pool flagged. sym (scan-found c.args.table.now pool (foreign c.args.table.now pool e) Refusal.NotMarkup c.loop-r.r (c.loop-r.invariant e pool flagged) less c.is_foreign.result (c.is_foreign.ensures ∙ foreign-is c.args.table.now pool c.args.flags.now e flagged c.loop-r.r less) c.if-is_foreign.true)
-
-pub overflow_add-r : goal.overflow_add-r
-overflow_add-r c =
-    let less = ltb-true c.loop-r.r (row_count c.args.table.now) (sym c.has_row.ensures ∙ c.loop-r-test.true) in
-    omega (arith, less, c.requires.0)
-
-pub loop-r-smaller : goal.loop-r-smaller
-loop-r-smaller c =
-    let less = ltb-true c.loop-r.r (row_count c.args.table.now) (sym c.has_row.ensures ∙ c.loop-r-test.true) in
-    omega (arith, less)
 
 pub loop-r-preserved : goal.loop-r-preserved
 loop-r-preserved c =
-    let less = ltb-true c.loop-r.r (row_count c.args.table.now) (sym c.has_row.ensures ∙ c.loop-r-test.true) in
+    let less : c.loop-r.r < row_count c.args.table.now = omega arith in
     λ e pool flagged. scan-next c.args.table.now pool (foreign c.args.table.now pool e) Refusal.NotMarkup c.loop-r.r (c.loop-r.invariant e pool flagged) less c.is_foreign.result (c.is_foreign.ensures ∙ foreign-is c.args.table.now pool c.args.flags.now e flagged c.loop-r.r less) c.if-is_foreign.false
 
 pub returns : goal.returns
 returns c =
-    let past = ltb-false c.loop-r.r (row_count c.args.table.now) (sym c.has_row.ensures ∙ c.loop-r-test.false) in
+    let past : row_count c.args.table.now ≤ c.loop-r.r = omega arith in
     λ e pool flagged. sym (scan-end c.args.table.now pool (foreign c.args.table.now pool e) Refusal.NotMarkup c.loop-r.r (c.loop-r.invariant e pool flagged) past)

@@ -1,5 +1,5 @@
 -- `markup_refusals::check_markup` meets its contract.
-use Prim.Native.Nat.{ℕ, ◌-◌}
+use Prim.Native.Nat.{ℕ}
 use mathlib.Core.List.{List}
 use Rattle.rules.specs.Table.{row_count}
 use Rattle.rules.specs.declared.Refusal.{Refusal}
@@ -10,6 +10,3 @@ use Rattle.markup_refusals.proofs.check_markup.Given as goal
 
 abbrev pub invariant-loop-r : goal.invariant-loop-r
 invariant-loop-r l = (e : ℕ) (pool : List ℕ) → Flagged l.table l.flags e (row_count l.table) → Scanning l.table pool (foreign l.table pool e) Refusal.NotMarkup l.r
-
-abbrev pub decreases-loop-r : goal.decreases-loop-r
-decreases-loop-r l = row_count l.table - l.r

@@ -1,5 +1,5 @@
 -- `markup_refusals::check_values` meets its contract.
-use Prim.Native.Nat.{ℕ, ◌-◌}
+use Prim.Native.Nat.{ℕ}
 use Rattle.rules.specs.Table.{row_count}
 use Rattle.rules.specs.declared.Refusal.{Refusal}
 use Rattle.subtree.specs.Flags.{Flagged}
@@ -9,6 +9,3 @@ use Rattle.markup_refusals.proofs.check_values.Given as goal
 
 abbrev pub invariant-loop-r : goal.invariant-loop-r
 invariant-loop-r l = (e : ℕ) → Flagged l.table l.flags e (row_count l.table) → Scanning l.table l.pool (spoiled l.table l.pool e) Refusal.Character l.r
-
-abbrev pub decreases-loop-r : goal.decreases-loop-r
-decreases-loop-r l = row_count l.table - l.r

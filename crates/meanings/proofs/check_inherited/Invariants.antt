@@ -1,5 +1,5 @@
 -- `meanings::check_inherited` meets its contract.
-use Prim.Native.Nat.{ℕ, ◌+◌, ◌-◌, ◌<◌}
+use Prim.Native.Nat.{ℕ, ◌+◌, ◌<◌}
 use mathlib.Core.Path.{◌≡◌}
 use mathlib.Core.Bool.{true}
 use mathlib.Core.List.{List}
@@ -11,10 +11,7 @@ use Rattle.subtree.proofs.Scans.{Scanning}
 use Rattle.unsettled.specs.Walkable.{Walkable}
 use Rattle.meanings.proofs.check_inherited.Given as goal
 
-abbrev pub invariant-loop-e : goal.invariant-loop-e
-invariant-loop-e l =
+abbrev pub invariant-loop-r : goal.invariant-loop-r
+invariant-loop-r l =
     (pool path : List ℕ) → Walkable l.table pool l.notes l.tops path → Standing l.table l.notes l.tops path (l.e + 1) → l.e < row_count l.table → is_element (node (nodes l.table pool) l.e).type ≡ true
     → Scanning l.table pool (is_inherited (nodes l.table pool) l.e) Refusal.Inherited l.r
-
-abbrev pub decreases-loop-e : goal.decreases-loop-e
-decreases-loop-e l = row_count l.table - l.r

@@ -1,7 +1,7 @@
 -- `noemathu::noemathu_check` meets its contract.
 use mathlib.Core.Path.{ap, ◌∙◌}
-use Rattle.answers.specs.Given.{check_given}
+use Rattle.refusal_numbers.specs.Given.{check_given}
 use Rattle.noemathu.proofs.noemathu_check.Goals as goal
 
 pub returns : goal.returns
-returns c = c.check_number.ensures ∙ ap check_given c.check.ensures
+returns c = c.into.ensures ∙ ap check_given c.check.ensures

@@ -4,4 +4,4 @@ use Rattle.answers.specs.Given.{bound_given}
 use Rattle.noemathu.proofs.noemathu_in_scope_prefix.Goals as goal
 
 pub returns : goal.returns
-returns c = c.bound.ensures ∙ ap bound_given c.in_scope_prefix.ensures
+returns c = c.into.ensures ∙ ap bound_given c.in_scope_prefix.ensures

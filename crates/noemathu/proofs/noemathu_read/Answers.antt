@@ -5,4 +5,4 @@ use Rattle.noemathu.proofs.noemathu_read.Goals as goal
 
 pub returns : goal.returns
 returns c =
-    record { value = c.filled.ensures ∙ ap filled_given c.read.ensures.value; out_table_after = c.read.ensures.out_table_after; out_pool_after = c.read.ensures.out_pool_after }
+    record { value = c.into.ensures ∙ ap filled_given c.read.ensures.value; out_table_after = c.read.ensures.out_table_after; out_pool_after = c.read.ensures.out_pool_after }

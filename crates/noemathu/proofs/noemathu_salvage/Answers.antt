@@ -5,4 +5,4 @@ use Rattle.noemathu.proofs.noemathu_salvage.Goals as goal
 
 pub returns : goal.returns
 returns c =
-    record { value = c.rescued.ensures ∙ ap rescued_given c.salvage.ensures.value; out_after = c.salvage.ensures.out_after; list_after = c.salvage.ensures.list_after }
+    record { value = c.into.ensures ∙ ap rescued_given c.salvage.ensures.value; out_after = c.salvage.ensures.out_after; list_after = c.salvage.ensures.list_after }

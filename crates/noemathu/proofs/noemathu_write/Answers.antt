@@ -5,4 +5,4 @@ use Rattle.noemathu.proofs.noemathu_write.Goals as goal
 
 pub returns : goal.returns
 returns c =
-    record { value = c.written.ensures ∙ ap written_given c.write.ensures.value; out_after = c.write.ensures.out_after }
+    record { value = c.into.ensures ∙ ap written_given c.write.ensures.value; out_after = c.write.ensures.out_after }

@@ -1,9 +1,6 @@
-use Prim.Native.Nat.{◌+◌, ◌*◌, ◌≤◌, ◌<◌, ◌-◌}
-use mathlib.Core.Bool.{true}
-use mathlib.Core.Path.{◌≡◌, sym, ◌∙◌}
-use native.Mathlib.Omega.{arith}
-use lib.ListN.{get_or}
-use Rattle.ns_names.specs.Numbers.{follows}
+use Rattle.std.proofs.Common.{◌≡◌, ◌-◌, length, take, drop, sym, ◌∙◌, arith}
+use Rattle.std.proofs.lemmas.List.{length-drop}
+use Rattle.std.proofs.Math.Seq.{take_all}
 use Rattle.ns_names.proofs.Reading.{number_short, number-other, number-other-second, number-start, read-end, read-fails, read_step, follows-small}
 use Rattle.ns_names.proofs.numbered.Goals as goal
 
@@ -16,40 +13,30 @@ returns-then-name-ne78 c = sym (number-other c.args.name.now (omega arith) c.if-
 pub returns-then-name-ne83 : goal.returns-then-name-ne83
 returns-then-name-ne83 c = sym (number-other-second c.args.name.now (omega arith) c.if-name-ne83.true)
 
-pub loop-i-init : goal.loop-i-init
-loop-i-init c =
-    (omega arith, omega arith, number-start c.args.name.now (omega arith) c.if-name-ne78.false c.if-name-ne83.false)
+pub loop-byte-init : goal.loop-byte-init
+loop-byte-init c =
+    let name = c.args.name.now in
+    let digits : take (length name - 2) (drop 2 name) ≡ drop 2 name = take_all (length name - 2) (drop 2 name) (rw length-drop (omega arith)) in
+    record { few = omega arith; left = rw digits (number-start name (omega arith) c.if-name-ne78.false c.if-name-ne83.false) }
 
 pub returns-then-not-follows : goal.returns-then-not-follows
 returns-then-not-follows c =
-    let name = c.args.name.now in
-    sym (read-fails name c.loop-i.k c.loop-i.i (omega arith) (sym c.follows.ensures ∙ c.if-not-follows.true)) ∙ c.loop-i.invariant.2
+    let digits = take (length c.args.name.now - 2) (drop 2 c.args.name.now) in
+    sym (read-fails digits c.loop-byte.k c.loop-byte.byte-index (omega arith) (sym c.follows.ensures ∙ c.if-not-follows.true)) ∙ c.loop-byte.invariant.left
 
 pub overflow_sub-k : goal.overflow_sub-k
-overflow_sub-k c =
-    let digit : follows c.loop-i.k (get_or c.args.name.now c.loop-i.i 0) ≡ true = sym c.follows.ensures ∙ c.if-not-follows.false in
-    let small : (48 ≤ get_or c.args.name.now c.loop-i.i 0) × (c.loop-i.k * 10 + (get_or c.args.name.now c.loop-i.i 0 - 48) < 10000) = follows-small c.loop-i.k (get_or c.args.name.now c.loop-i.i 0) digit in
-    omega (arith, small.0, small.1)
+overflow_sub-k c = (follows-small _ _ (sym c.follows.ensures ∙ c.if-not-follows.false)).0
 
-pub overflow_cast-k : goal.overflow_cast-k
-overflow_cast-k c =
-    let digit : follows c.loop-i.k (get_or c.args.name.now c.loop-i.i 0) ≡ true = sym c.follows.ensures ∙ c.if-not-follows.false in
-    let small : (48 ≤ get_or c.args.name.now c.loop-i.i 0) × (c.loop-i.k * 10 + (get_or c.args.name.now c.loop-i.i 0 - 48) < 10000) = follows-small c.loop-i.k (get_or c.args.name.now c.loop-i.i 0) digit in
-    omega (arith, small.0, small.1)
-
-pub overflow_add-k : goal.overflow_add-k
-overflow_add-k c =
-    let digit : follows c.loop-i.k (get_or c.args.name.now c.loop-i.i 0) ≡ true = sym c.follows.ensures ∙ c.if-not-follows.false in
-    let small : (48 ≤ get_or c.args.name.now c.loop-i.i 0) × (c.loop-i.k * 10 + (get_or c.args.name.now c.loop-i.i 0 - 48) < 10000) = follows-small c.loop-i.k (get_or c.args.name.now c.loop-i.i 0) digit in
-    omega (arith, small.0, small.1)
-
-pub loop-i-preserved : goal.loop-i-preserved
-loop-i-preserved c =
-    let digit : follows c.loop-i.k (get_or c.args.name.now c.loop-i.i 0) ≡ true = sym c.follows.ensures ∙ c.if-not-follows.false in
-    let small : (48 ≤ get_or c.args.name.now c.loop-i.i 0) × (c.loop-i.k * 10 + (get_or c.args.name.now c.loop-i.i 0 - 48) < 10000) = follows-small c.loop-i.k (get_or c.args.name.now c.loop-i.i 0) digit in
-    (omega arith, small.1, read_step c.args.name.now c.loop-i.k c.loop-i.i (omega arith) digit ∙ c.loop-i.invariant.2)
+pub loop-byte-preserved : goal.loop-byte-preserved
+loop-byte-preserved c =
+    let digits = take (length c.args.name.now - 2) (drop 2 c.args.name.now) in
+    let digit = sym c.follows.ensures ∙ c.if-not-follows.false in
+    record {
+      few = (follows-small _ _ digit).1;
+      left = read_step digits c.loop-byte.k c.loop-byte.byte-index (omega arith) digit ∙ c.loop-byte.invariant.left;
+    }
 
 pub returns : goal.returns
 returns c =
-    let name = c.args.name.now in
-    sym (read-end name c.loop-i.k c.loop-i.i (omega arith)) ∙ c.loop-i.invariant.2
+    let digits = take (length c.args.name.now - 2) (drop 2 c.args.name.now) in
+    sym (read-end digits c.loop-byte.k c.loop-byte.byte-index (omega arith)) ∙ c.loop-byte.invariant.left

@@ -1,12 +1,7 @@
 -- `write` meets its contract.
-use Prim.Native.Nat.{◌-◌}
-use mathlib.Core.Path.{◌≡◌}
-use lib.ListN.{length}
+use Rattle.std.proofs.Common.{◌*◌}
 use Rattle.packed_pool.specs.Marking.{Begun}
 use Rattle.packed_pool.proofs.write.Given as goal
 
-abbrev pub invariant-loop-i : goal.invariant-loop-i
-invariant-loop-i l = (length l.out ≡ length l.initial.out) × Begun l.initial.out l.at l.name l.i l.out
-
-abbrev pub decreases-loop-i : goal.decreases-loop-i
-decreases-loop-i l = length l.name - l.i
+abbrev pub invariant-loop-four : goal.invariant-loop-four
+invariant-loop-four l = Begun l.initial.out l.at l.name (4 * l.four) l.out

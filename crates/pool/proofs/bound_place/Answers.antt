@@ -1,24 +1,30 @@
 -- `bound_place` meets its contract: each answer has its place.
-use mathlib.Core.Path.{sym, ap}
+use Rattle.std.proofs.Common.{sym, ap, ◌∙◌, Some, Ok}
 use Rattle.rules.specs.Answers.{bound_place}
 use Rattle.pool.proofs.bound_place.Goals as goal
 
-pub returns-in-At : goal.returns-in-At
+pub returns-in-Ok-Some-At : goal.returns-in-Ok-Some-At
 unfolding bound_place
-returns-in-At c = sym (ap bound_place c.in-At.is)
+returns-in-Ok-Some-At c =
+    let some = rw c.in-Ok-Some-At.is at c.in-Ok-Some-At.field-0-is in
+    sym (ap bound_place (c.in-Ok-Some-At.is ∙ ap Ok (some ∙ ap Some (rw (c.in-Ok-Some-At.is, some) at c.in-Ok-Some-At.field-0-0-is))))
 
-pub returns-in-Xml : goal.returns-in-Xml
+pub returns-in-Ok-Some-Xml : goal.returns-in-Ok-Some-Xml
 unfolding bound_place
-returns-in-Xml c = sym (ap bound_place c.in-Xml.is)
+returns-in-Ok-Some-Xml c =
+    let some = rw c.in-Ok-Some-Xml.is at c.in-Ok-Some-Xml.field-0-is in
+    sym (ap bound_place (c.in-Ok-Some-Xml.is ∙ ap Ok (some ∙ ap Some (rw (c.in-Ok-Some-Xml.is, some) at c.in-Ok-Some-Xml.field-0-0-is))))
 
-pub returns-in-Xmlns : goal.returns-in-Xmlns
+pub returns-in-Ok-Some-Xmlns : goal.returns-in-Ok-Some-Xmlns
 unfolding bound_place
-returns-in-Xmlns c = sym (ap bound_place c.in-Xmlns.is)
+returns-in-Ok-Some-Xmlns c =
+    let some = rw c.in-Ok-Some-Xmlns.is at c.in-Ok-Some-Xmlns.field-0-is in
+    sym (ap bound_place (c.in-Ok-Some-Xmlns.is ∙ ap Ok (some ∙ ap Some (rw (c.in-Ok-Some-Xmlns.is, some) at c.in-Ok-Some-Xmlns.field-0-0-is))))
 
-pub returns-in-Nothing : goal.returns-in-Nothing
+pub returns-in-Ok-None : goal.returns-in-Ok-None
 unfolding bound_place
-returns-in-Nothing c = sym (ap bound_place c.in-Nothing.is)
+returns-in-Ok-None c = sym (ap bound_place (c.in-Ok-None.is ∙ ap Ok (rw c.in-Ok-None.is at c.in-Ok-None.field-0-is)))
 
-pub returns-in-Refused : goal.returns-in-Refused
+pub returns-in-Err : goal.returns-in-Err
 unfolding bound_place
-returns-in-Refused c = sym (ap bound_place c.in-Refused.is)
+returns-in-Err c = sym (ap bound_place c.in-Err.is)

@@ -1,15 +1,10 @@
 -- `prefixes::prefix_of_uri` meets its contract. The invariant: what is left of the path gives what the whole path gives.
 use Prim.Native.Nat.{ℕ}
 use mathlib.Core.List.{List}
-use lib.ListN.{length}
 use Rattle.rules.specs.Table.{nodes}
-use Rattle.declarations.specs.Along.{Along}
 use Rattle.declarations.specs.Meant.{Meant}
 use Rattle.outward.proofs.Left.{Left, prefix_lookup}
 use Rattle.prefixes.proofs.prefix_of_uri.Given as goal
 
-abbrev pub invariant-loop-left : goal.invariant-loop-left
-invariant-loop-left l = Along l.table l.notes l.left × ((pool : List ℕ) → Meant l.table pool l.notes l.wanted l.uri → Left l.table pool l.path (prefix_lookup (nodes l.table pool) l.path l.uri) l.left)
-
-abbrev pub decreases-loop-left : goal.decreases-loop-left
-decreases-loop-left l = length l.left
+abbrev pub invariant-loop-element : goal.invariant-loop-element
+invariant-loop-element l = (pool : List ℕ) → Meant l.table pool l.notes l.number.0 l.uri → Left l.table pool l.path (prefix_lookup (nodes l.table pool) l.path l.uri) l.element-index

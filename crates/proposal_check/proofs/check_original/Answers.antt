@@ -8,8 +8,8 @@ check-requires c = c.requires
 
 pub check_proposal-requires : goal.check_proposal-requires
 check_proposal-requires c =
-    record { pool_value = accepted c.args.original.now c.args.pool.now c.check.ensures.value c.in-Accepted.is; noted = c.check.ensures.noted c.in-Accepted.is }
+    record { pool_value = accepted c.args.original.now c.args.pool.now c.check.ensures.value c.in-Ok.is; noted = c.check.ensures.noted c.in-Ok.is }
 
-pub returns-in-Refused : goal.returns-in-Refused
-returns-in-Refused c =
-    c.refuse_original.ensures ∙ original-fails c.args.original.now c.args.pool.now c.args.proposal.now c.args.other.now _ (refused c.args.original.now c.args.pool.now c.check.ensures.value _ c.in-Refused.is)
+pub returns-in-Err : goal.returns-in-Err
+returns-in-Err c =
+    c.refuse_original.ensures ∙ original-fails c.args.original.now c.args.pool.now c.args.proposal.now c.args.other.now _ (refused c.args.original.now c.args.pool.now c.check.ensures.value _ c.in-Err.is)

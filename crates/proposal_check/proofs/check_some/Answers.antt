@@ -5,14 +5,13 @@ use Rattle.scope_preparation.proofs.Arrays.{zeros-blank, zeros-cleared}
 use Rattle.proposal_check.proofs.Order.{lookup-refused, proposal-fails}
 use Rattle.proposal_check.proofs.check_some.Goals as goal
 
-pub begin_few-requires : goal.begin_few-requires
-begin_few-requires c =
-    record { table_bound = c.requires.pool_value.1; blank = zeros-blank c.args.proposal.now 512 (λ small. omega (arith, c.requires.pool_value.1)) }
+pub begin-requires : goal.begin-requires
+begin-requires c = zeros-blank c.args.proposal.now 512 (λ small. omega (arith, c.requires.pool_value.1))
 
 pub check_asked-requires : goal.check_asked-requires
 check_asked-requires c =
-    record { pool_value = c.requires.pool_value.0; noted = c.requires.noted; grounded = c.begin_few.ensures.0 _ c.in-Asked.is; cleared = zeros-cleared c.args.proposal.now 579 260 (λ small. (omega (arith, c.requires.pool_value.1), omega (arith, c.requires.pool_value.1))) }
+    record { pool_value = c.requires.pool_value.0; noted = c.requires.noted; grounded = c.begin.ensures.0 _ c.in-Ok.is; cleared = zeros-cleared c.args.proposal.now 579 260 (λ small. (omega (arith, c.requires.pool_value.1), omega (arith, c.requires.pool_value.1))) }
 
-pub returns-in-Refused : goal.returns-in-Refused
-returns-in-Refused c =
-    c.refuse_proposal.ensures ∙ proposal-fails c.args.original.now c.args.pool.now c.args.proposal.now c.args.other.now c.requires.pool_value.0 _ (lookup-refused c.args.proposal.now c.args.other.now _ c.requires.pool_value.2 (c.begin_few.ensures.1 _ c.in-Refused.is))
+pub returns-in-Err : goal.returns-in-Err
+returns-in-Err c =
+    c.refuse_proposal.ensures ∙ proposal-fails c.args.original.now c.args.pool.now c.args.proposal.now c.args.other.now c.requires.pool_value.0 _ (lookup-refused c.args.proposal.now c.args.other.now _ c.requires.pool_value.2 (c.begin.ensures.1 _ c.in-Err.is))

@@ -1,8 +1,8 @@
 -- `check_levels` meets its contract. The invariant: the rows that are left decide.
-use Prim.Native.Nat.{ℕ, ◌-◌}
+use Prim.Native.Nat.{ℕ}
 use mathlib.Core.List.{List}
 use lib.ListN.{length}
-use Rattle.rules.specs.Table.{row_count, nodes}
+use Rattle.rules.specs.Table.{nodes}
 use Rattle.rules.specs.declared.Refusal.{Refusal}
 use Rattle.proposals.specs.Proposals.{is_level1_row}
 use Rattle.proposals.proofs.Scans.{Scanning}
@@ -10,6 +10,3 @@ use Rattle.proposal_rows.proofs.check_levels.Given as goal
 
 abbrev pub invariant-loop-r : goal.invariant-loop-r
 invariant-loop-r l = (pool : List ℕ) → Scanning (is_level1_row (nodes l.table pool)) Refusal.ProposalLevel1 (length (nodes l.table pool)) l.r
-
-abbrev pub decreases-loop-r : goal.decreases-loop-r
-decreases-loop-r l = row_count l.table - l.r

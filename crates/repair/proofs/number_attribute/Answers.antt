@@ -26,4 +26,4 @@ pub returns : goal.returns
 returns c =
     λ h.
     number-done h c.requires.rows_lt_limit.0 c.requires.rows_lt_limit.1 c.least_unused-k.ensures c.number_for-number.ensures.result_value c.number_for-number.ensures.path_after c.take_numbered-bytes.ensures
-    c.append_on_top.auto.tops c.larger.ensures c.append_on_top.ensures.good c.append_on_top.ensures.same_attributes
+    c.append_on_top.auto.tops c.max.ensures c.append_on_top.ensures.good c.append_on_top.ensures.same_attributes

@@ -1,16 +1,9 @@
-use native.Mathlib.Omega.{arith}
+-- `grown` meets its contract.
+use Rattle.std.proofs.Common.{arith, length-take, length-drop}
 use Rattle.repeats.proofs.Repeating.{repeats-more}
 use Rattle.repeats.proofs.grown.Goals as goal
 
-pub loop-size-init : goal.loop-size-init
-loop-size-init c = c.requires
-
-pub returns-then-pool-start : goal.returns-then-pool-start
-returns-then-pool-start c = c.loop-size.invariant
-
-pub loop-size-preserved : goal.loop-size-preserved
-loop-size-preserved c =
-    (omega arith, repeats-more c.args.pool.now c.args.start c.loop-size.size c.args.step c.loop-size.invariant.1 c.if-pool-start.false)
-
 pub returns : goal.returns
-returns c = c.loop-size.invariant
+returns c =
+    let within = simp (length-take, length-drop) at c.common_length.ensures.within.1 in
+    (omega arith, repeats-more c.args.pool.now c.args.start c.args.least c.args.step c.requires.1 c.common_length.result c.common_length.ensures.same)

@@ -1,13 +1,15 @@
 -- `resolver::lookup` meets its contract.
-use Rattle.rules.specs.Table.{MOST_ROWS}
-use Rattle.questions.proofs.Going.{notes-lent, way}
+use Rattle.std.proofs.Common.{◌≤◌, arith}
+use Rattle.rules.specs.Table.{MOST_ROWS, row_count}
+use Rattle.table_size.specs.Small.{FEW_ROWS}
+use Rattle.questions.proofs.Going.{notes-lent}
 use Rattle.resolver.proofs.lookup.Goals as goal
 
-pub begin-begun-requires : goal.begin-begun-requires
-begin-begun-requires c = notes-lent c.args.table.now MOST_ROWS (λ h. h)
+pub lookup_in-requires : goal.lookup_in-requires
+lookup_in-requires c =
+    let few : row_count c.args.table.now ≤ FEW_ROWS = omega (arith, c.row_count.ensures, c.if-row_count-le-FEW_ROWS.true) in
+    record { note_size = omega arith; path_size = omega arith; blank = notes-lent c.args.table.now FEW_ROWS (λ _. few); rows_few = λ _. few }
 
-pub lookup_begun-requires : goal.lookup_begun-requires
-lookup_begun-requires c = way c.args.table.now c.args.pool.now _ _ _ _ MOST_ROWS (λ h. h) c.begin-begun.ensures
-
-pub returns : goal.returns
-returns c = c.lookup_begun.ensures _ c.begin-begun.ensures
+pub lookup_in-requires-2 : goal.lookup_in-requires-2
+lookup_in-requires-2 c =
+    record { note_size = omega arith; path_size = omega arith; blank = notes-lent c.args.table.now MOST_ROWS (λ h. h); rows_few = λ h. h }

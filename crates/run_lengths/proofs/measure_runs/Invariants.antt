@@ -4,6 +4,3 @@ use Rattle.run_lengths.proofs.measure_runs.Given as goal
 
 abbrev pub invariant-loop-i : goal.invariant-loop-i
 invariant-loop-i l = Stored l.bytes l.initial.runs l.runs l.i l.text l.quoted
-
-abbrev pub decreases-loop-i : goal.decreases-loop-i
-decreases-loop-i l = l.i

@@ -1,20 +1,25 @@
+-- `runs::look_for_run` meets its contract.
+use Prim.Native.Nat.{ℕ, ◌-◌}
+use mathlib.Core.Path.{◌≡◌, ap, ◌∙◌}
+use mathlib.Core.List.{List}
 use native.Mathlib.Omega.{arith}
-use Rattle.runs.proofs.Runs.{run_on, run-ended, run-over}
+use lib.ListN.{length, take, drop, length-drop}
+use Rattle.std.proofs.lemmas.List.{take_all}
+use Rattle.std.proofs.Common.{rules}
+use Rattle.std.proofs.lemmas.Iterator.{YieldsList-from_slice}
+use Rattle.std.proofs.lemmas.Iterator.Search.{position_from_yields_List}
+use Rattle.std.specs.List.{position}
+use borrow.Author.Tests.{tests}
+use Rattle.escapes.specs.Escapes.{is_escaped}
+use Rattle.runs.specs.Runs.{run}
+use Rattle.runs.proofs.Runs.{run-position}
 use Rattle.runs.proofs.look_for_run.Goals as goal
 
-pub loop-end-init : goal.loop-end-init
-loop-end-init c = (omega arith, c.requires, omega arith)
-
-pub ends_run-requires : goal.ends_run-requires
-ends_run-requires c = tt
-
-pub returns-then-ends_run : goal.returns-then-ends_run
-returns-then-ends_run c =
-    omega (arith, c.loop-end.invariant.2, run-ended c.args.quoted c.args.bytes.now c.loop-end.end (omega arith) (cc))
-
-pub loop-end-preserved : goal.loop-end-preserved
-loop-end-preserved c =
-    (omega arith, omega arith, omega (arith, c.loop-end.invariant.2, run_on c.args.quoted c.args.bytes.now c.loop-end.end (omega arith) (cc)))
-
 pub returns : goal.returns
-returns c = omega (arith, c.loop-end.invariant.2, run-over c.args.quoted c.args.bytes.now c.loop-end.end (omega arith))
+returns c =
+    let quoted = c.args.quoted in
+    let bytes = c.args.bytes.now in
+    let rest = take (length bytes - c.args.i) (drop c.args.i bytes) in
+    let found : c.position.result ≡ position (is_escaped quoted) rest = position_from_yields_List (is_escaped quoted) _ _ c.position.result c.position.ensures.ran (YieldsList-from_slice rest (cc)) (λ x b q k. search (rules, tests)) in
+    let all : rest ≡ drop c.args.i bytes = take_all (length bytes - c.args.i) (drop c.args.i bytes) (omega (arith, length-drop c.args.i bytes)) in
+    c.unwrap_or.ensures ∙ run-position quoted rest found ∙ ap (λ (l : List ℕ). length (run quoted l)) all

@@ -1,37 +1,39 @@
-use Prim.Native.Nat.{◌-◌}
-use mathlib.Core.Path.{sym, ◌∙◌}
-use native.Mathlib.Omega.{arith}
-use lib.ListN.{length, get_or}
-use Rattle.short_strings.proofs.Bytes.{equal-end, equal-byte, equal-group, equal-whole, differ, differ-group}
+use Rattle.std.proofs.Common.{◌≡◌, ◌*◌, ◌/◌, length, drop, ap, sym, ◌∙◌, arith}
+use Rattle.rules.proofs.Lists.{equal-same_bytes}
+use Rattle.short_strings.proofs.Bytes.{differ}
+use Rattle.short_strings.proofs.Groups.{all-left, next-left, other-left, told-same, told-other}
 use Rattle.short_strings.proofs.same_short.Goals as goal
 
-pub returns-then-i-b : goal.returns-then-i-b
-returns-then-i-b c = differ c.args.a.now c.args.b.now length c.if-i-b.true
+pub returns-then-a-b : goal.returns-then-a-b
+returns-then-a-b c = differ c.args.a.now c.args.b.now length c.if-a-b.true
 
-pub loop-i-init : goal.loop-i-init
-loop-i-init c = equal-end c.args.a.now c.args.b.now c.if-i-b.false
+pub returns-then-ne : goal.returns-then-ne
+returns-then-ne c =
+    let b = c.args.b.now in
+    let other : c.as_chunks.result.1.now ≡ c.as_chunks-2.result.1.now → ⊥ = told-other _ _ c.ne.ensures c.if-ne.true in
+    let level = ap (λ n. drop (n / 4 * 4) b) c.if-a-b.false in
+    differ c.args.a.now b (drop (length c.args.a.now / 4 * 4)) (λ e. other (c.as_chunks.ensures.back ∙ e ∙ level ∙ sym c.as_chunks-2.ensures.back))
 
-pub returns-then-a-i : goal.returns-then-a-i
-returns-then-a-i c = differ c.args.a.now c.args.b.now (λ l. get_or l (c.loop-i.i - 1) 0) c.if-a-i.true
+pub loop-a_four-init : goal.loop-a_four-init
+loop-a_four-init c =
+    let a = c.args.a.now in
+    let b = c.args.b.now in
+    let same : c.as_chunks.result.1.now ≡ c.as_chunks-2.result.1.now = told-same _ _ c.ne.ensures c.if-ne.false in
+    let level = ap (λ n. drop (n / 4 * 4) b) c.if-a-b.false in
+    all-left 4 a b _ _ (length a / 4) (cc) (cc)
+    (record {
+      within = omega arith;
+      level = c.if-a-b.false;
+      behind = equal-same_bytes (sym c.as_chunks.ensures.back ∙ same ∙ c.as_chunks-2.ensures.back ∙ sym level);
+    })
 
-pub loop-i-preserved : goal.loop-i-preserved
-loop-i-preserved c =
-    let l = c.loop-i in
-    equal-byte c.args.a.now c.args.b.now l.i (omega arith) l.invariant c.if-a-i.false
+pub returns-then-ne-2 : goal.returns-then-ne-2
+returns-then-ne-2 c =
+    let step = c.in-Some.ensures.steps in
+    differ c.args.a.now c.args.b.now (λ l. l)
+    (other-left 4 _ _ _ _ _ _ (rw (step.0, step.1) at c.loop-a_four.invariant) (told-other _ _ c.ne-in-loop-a_four.ensures c.if-ne-2.true))
 
-pub loop-i-2-init : goal.loop-i-2-init
-loop-i-2-init c = (omega arith, c.loop-i.invariant)
-
-pub returns-then-not-same_four : goal.returns-then-not-same_four
-returns-then-not-same_four c =
-    let four = c.same_four in
-    differ-group c.args.a.now c.args.b.now 4 (c.loop-i-2.i - 4) (sym four.ensures ∙ c.if-not-same_four.true)
-
-pub loop-i-2-preserved : goal.loop-i-2-preserved
-loop-i-2-preserved c =
-    let l = c.loop-i-2 in
-    let four = c.same_four in
-    (omega arith, equal-group c.args.a.now c.args.b.now 4 l.i (omega arith) l.invariant.1 (sym four.ensures ∙ c.if-not-same_four.false))
-
-pub returns : goal.returns
-returns c = equal-whole c.args.a.now c.args.b.now c.loop-i-2.i (omega arith) c.loop-i-2.invariant.1
+pub loop-a_four-preserved : goal.loop-a_four-preserved
+loop-a_four-preserved c =
+    let step = c.in-Some.ensures.steps in
+    next-left 4 _ _ _ _ _ _ (rw (step.0, step.1) at c.loop-a_four.invariant) (told-same _ _ c.ne-in-loop-a_four.ensures c.if-ne-2.false)

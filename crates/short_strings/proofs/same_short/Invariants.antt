@@ -1,17 +1,6 @@
--- `short_strings::same_short` meets its contract. The invariant: the strings are equal from i on.
-use Prim.Native.Nat.{◌%◌}
-use mathlib.Core.Path.{◌≡◌}
-use Rattle.short_strings.proofs.Bytes.{EqualFrom}
+-- `short_strings::same_short` meets its contract. The invariant: the groups are left, and the strings are equal behind them.
+use Rattle.short_strings.proofs.Groups.{Left}
 use Rattle.short_strings.proofs.same_short.Given as goal
 
-abbrev pub invariant-loop-i : goal.invariant-loop-i
-invariant-loop-i l = EqualFrom l.a l.b l.i
-
-abbrev pub decreases-loop-i : goal.decreases-loop-i
-decreases-loop-i l = l.i
-
-abbrev pub invariant-loop-i-2 : goal.invariant-loop-i-2
-invariant-loop-i-2 l = (l.i % 4 ≡ 0) × EqualFrom l.a l.b l.i
-
-abbrev pub decreases-loop-i-2 : goal.decreases-loop-i-2
-decreases-loop-i-2 l = l.i
+abbrev pub invariant-loop-a_four : goal.invariant-loop-a_four
+invariant-loop-a_four l = Left 4 l.a l.b l.a_four-iterator.a.iter.rest.now l.a_four-iterator.b.iter.rest.now

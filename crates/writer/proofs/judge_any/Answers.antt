@@ -3,6 +3,7 @@ use native.Mathlib.Omega.{arith}
 use Rattle.text_refusals.proofs.Outcome.{lookup-refused}
 use Rattle.text_refusals.proofs.Judging.{judged-refused}
 use Rattle.scope_preparation.proofs.Arrays.{zeros-blank, zeros-cleared}
+use Rattle.std.proofs.lemmas.Result.{err_from_is_err_and}
 use Rattle.writer.proofs.judge_any.Goals as goal
 
 pub begin-requires : goal.begin-requires
@@ -10,12 +11,14 @@ begin-requires c = zeros-blank c.args.table.now 8192 (λ small. omega arith)
 
 pub judge_asked-requires : goal.judge_asked-requires
 judge_asked-requires c =
-    record { grounded = c.begin.ensures.0 _ c.in-Asked.is; cleared = zeros-cleared c.args.table.now 9219 4100 (λ small. (omega arith, omega arith)) }
+    record { grounded = c.begin.ensures.0 _ c.in_ok-xml.was; cleared = zeros-cleared c.args.table.now 9219 4100 (λ small. (omega arith, omega arith)) }
 
-pub returns-in-Asked : goal.returns-in-Asked
-returns-in-Asked c = c.judge_asked.ensures
+pub returns : goal.returns
+returns c = c.judge_asked.ensures
 
-pub returns-in-Refused : goal.returns-in-Refused
-returns-in-Refused c =
-    judged-refused c.args.table.now c.args.pool.now c.args.row.0 _
-    (λ size. lookup-refused c.args.table.now c.args.pool.now c.args.row.0 size _ (c.begin.ensures.1 _ c.in-Refused.is))
+pub returns-in_err-xml : goal.returns-in_err-xml
+returns-in_err-xml c =
+    let p = err_from_is_err_and c.from_residual.result c.from_residual.ensures.1 in
+    rw (p.1, p.2)
+    (judged-refused c.args.table.now c.args.pool.now c.args.row.0 _
+    (λ size. lookup-refused c.args.table.now c.args.pool.now c.args.row.0 size _ (c.begin.ensures.1 _ c.in_err-xml.was)))

@@ -1,9 +1,0 @@
--- `parts::piece` meets its contract.
-use Rattle.std.proofs.Common.{◌≤◌, length}
-use Rattle.cases.proofs.parts.piece.Given as goal
-
-abbrev pub invariant-loop-left : goal.invariant-loop-left
-invariant-loop-left l = l.from ≤ length l.text
-
-abbrev pub decreases-loop-left : goal.decreases-loop-left
-decreases-loop-left l = l.left

@@ -1,6 +1,0 @@
--- `words::number` meets its contract.
-use Rattle.std.proofs.Common.{◌-◌, length}
-use Rattle.cases.proofs.words.number.Given as goal
-
-abbrev pub decreases-loop-i : goal.decreases-loop-i
-decreases-loop-i l = length l.text - l.i
