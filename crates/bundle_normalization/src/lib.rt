@@ -25,7 +25,8 @@ pub fn normalize(bundle: &[u8], out: &mut [u8]) -> Result<usize, Refusal>
     normalize_few(bundle, out)
 }
 
-// Normalizes any bundle. Two places call it, so that it keeps its arrays, which are large, to itself.
+// Normalizes any bundle. It keeps its arrays, which are large, to itself.
+#[inline(never)]
 fn normalize_any(bundle: &[u8], out: &mut [u8]) -> Result<usize, Refusal>
     ensures value { result ≡ (bundle_normalized bundle.now (length out.old)).answer }
     ensures out_after { out.new ≡ (bundle_normalized bundle.now (length out.old)).bytes }

@@ -31,7 +31,8 @@ pub fn pack(bundle: &[u8], out: &mut [u8]) -> Result<usize, Refusal>
     pack_few(bundle, out)
 }
 
-// Packs any bundle. Two places call it, so that it keeps its arrays, which are large, to itself.
+// Packs any bundle. It keeps its arrays, which are large, to itself.
+#[inline(never)]
 fn pack_any(bundle: &[u8], out: &mut [u8]) -> Result<usize, Refusal>
     ensures value { result ≡ (bundle_packed bundle.now (length out.old)).answer }
     ensures out_after { out.new ≡ (bundle_packed bundle.now (length out.old)).bytes }

@@ -43,7 +43,8 @@ fn is_small(bundle: &[u8]) -> bool
     !small_bundles::has_long_pool(bundle)
 }
 
-// The check of any two bundles. Two places call it, so that it keeps its arrays, which are large, to itself.
+// The check of any two bundles. It keeps its arrays, which are large, to itself.
+#[inline(never)]
 fn check_any(original: &[u8], proposal: &[u8]) -> Result<(), Refusal>
     ensures { result ≡ bundle_proposal_checked original.now proposal.now }
 {
@@ -117,6 +118,7 @@ fn check_few_proposal(
 }
 
 // Reads the rows of a bundle, checks them, and writes the numbers of their names to the notes. What is refused fails the check.
+#[inline(never)]
 fn number_any(bundle: &[u8], table: &mut [u32], notes: &mut [u16]) -> Result<usize, Refusal>
     requires { (HasRoom bundle.now table.old) × (NotesFor bundle.now notes.old) }
     ensures { Numbers bundle.now table.new notes.new result }
@@ -130,7 +132,8 @@ fn number_any(bundle: &[u8], table: &mut [u32], notes: &mut [u16]) -> Result<usi
     Ok(rows)
 }
 
-// The same of a bundle of few rows. Two places call it, so that its dictionary is gone when the proposal is checked.
+// The same of a bundle of few rows. Its dictionary is gone when the proposal is checked.
+#[inline(never)]
 fn number_few(bundle: &[u8], table: &mut [u32], notes: &mut [u16]) -> Result<usize, Refusal>
     requires names_at_most { NamesAtMost bundle.now FEW_ROWS }
     requires has_room { (HasRoom bundle.now table.old) × (NotesFor bundle.now notes.old) }
