@@ -29,8 +29,8 @@ pub fn write_xml(bundle: &[u8], row: Row, out: &mut [u8]) -> Result<usize, Refus
     write_few(bundle, row, out)
 }
 
-// Writes the text from any bundle. Two places call it, and it alone calls `writer::write`, so that it keeps its
-// arrays, which are large, to itself.
+// Writes the text from any bundle. It keeps its arrays, which are large, to itself.
+#[inline(never)]
 fn write_any(bundle: &[u8], row: Row, out: &mut [u8]) -> Result<usize, Refusal>
     ensures value { result ≡ (bundle_text bundle.now row.0 (length out.old)).answer }
     ensures out_after { out.new ≡ (bundle_text bundle.now row.0 (length out.old)).bytes }

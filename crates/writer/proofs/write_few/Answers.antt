@@ -4,12 +4,12 @@ use Rattle.writer.proofs.write_few.Goals as goal
 
 pub write_few-requires : goal.write_few-requires
 write_few-requires c =
-    let writes = c.judge_few.ensures.element _ c.in-Ok.is in record { pool_value = writes.accepted; row_bound = writes.within; table_bound = c.requires }
+    let writes = c.judge.ensures.element _ c.in-Ok.is in record { pool_value = writes.accepted; row_bound = writes.within; table_bound = c.requires }
 
 pub returns-in-Ok : goal.returns-in-Ok
 returns-in-Ok c =
-    let all = element-written (c.judge_few.ensures.element _ c.in-Ok.is) _ (c.write_few.ensures.value, c.write_few.ensures.out_after) in record { value = all.0; out_after = all.1 }
+    let all = element-written (c.judge.ensures.element _ c.in-Ok.is) _ (c.write_few.ensures.value, c.write_few.ensures.out_after) in record { value = all.0; out_after = all.1 }
 
 pub returns-in-Err : goal.returns-in-Err
 returns-in-Err c =
-    let all = refused-written _ _ _ _ _ (c.judge_few.ensures.refused _ c.in-Err.is _) (c.refuse.ensures.value, c.refuse.ensures.out_after) in record { value = all.0; out_after = all.1 }
+    let all = refused-written _ _ _ _ _ (c.judge.ensures.refused _ c.in-Err.is _) (c.refuse.ensures.value, c.refuse.ensures.out_after) in record { value = all.0; out_after = all.1 }

@@ -1,23 +1,20 @@
--- `writer::judge_any` meets its contract.
-use native.Mathlib.Omega.{arith}
+-- `writer::judge_in` meets its contract.
+use Rattle.std.proofs.lemmas.Result.{err_from_is_err_and}
 use Rattle.text_refusals.proofs.Outcome.{lookup-refused}
 use Rattle.text_refusals.proofs.Judging.{judged-refused}
-use Rattle.scope_preparation.proofs.Arrays.{zeros-blank, zeros-cleared}
-use Rattle.std.proofs.lemmas.Result.{err_from_is_err_and}
-use Rattle.writer.proofs.judge_any.Goals as goal
+use Rattle.writer.proofs.judge_in.Goals as goal
 
 pub begin-requires : goal.begin-requires
-begin-requires c = zeros-blank c.args.table.now 8192 (λ small. omega arith)
+begin-requires g c = c.requires.blank
 
 pub judge_asked-requires : goal.judge_asked-requires
-judge_asked-requires c =
-    record { grounded = c.begin.ensures.0 _ c.in_ok-xml.was; cleared = zeros-cleared c.args.table.now 9219 4100 (λ small. (omega arith, omega arith)) }
+judge_asked-requires g c = record { grounded = c.begin.ensures.0 _ c.in_ok-xml.was; cleared = c.requires.cleared }
 
 pub returns : goal.returns
-returns c = c.judge_asked.ensures
+returns g c = c.judge_asked.ensures
 
 pub returns-in_err-xml : goal.returns-in_err-xml
-returns-in_err-xml c =
+returns-in_err-xml g c =
     let p = err_from_is_err_and c.from_residual.result c.from_residual.ensures.1 in
     rw (p.1, p.2)
     (judged-refused c.args.table.now c.args.pool.now c.args.row.0 _
