@@ -18,6 +18,7 @@ const CLEARING: usize = 8192;
 
 // Writes the text of an element of a table that the check accepts; the rest of the output is zero. Where the text does not fit:
 // refusal 22, and all is zero.
+#[inline(never)]
 pub fn write_any(table: &[u32], pool: &[u8], row: Row, out: &mut [u8]) -> Result<usize, Refusal>
     requires pool_value { check_refusal table.now pool.now ≡ none }
     requires row_bound { row.0 < row_count table.now }
