@@ -6,7 +6,7 @@ use mathlib.Core.Bool.{Bool, true, false, ◌&&◌}
 use mathlib.Core.List.{List, [], ◌∷◌, ◌++◌, map, append_assoc, append-nil}
 use mathlib.Core.Option.{none}
 use native.Mathlib.Omega.{arith}
-use lib.ListN.{length, get_or, take, drop, replicate, length-append, length-drop, length-map}
+use lib.ListN.{length, get_or, take, drop, length-append, length-drop, length-map}
 use lib.Seq.{length-take-le, take_all, take_at, drop-cons}
 use borrow.Author.Tests.{eqb-true}
 use Rattle.rules.specs.Table as T
@@ -234,15 +234,6 @@ pub still-enough :
     → Enough table pool notes index starts out_table limit → Enough table pool notes index' starts' out_table' limit
 still-enough i s t e =
     record { accepted = e.accepted; records = e.records; entries = rw i e.entries; numbers = rw s e.numbers; rows = rw t e.rows; limited = e.limited }
-
-zero-at : (size i : ℕ) → get_or (replicate {A = ℕ} size 0) i 0 ≡ 0
-zero-at zero i = refl
-zero-at (suc size) zero = refl
-zero-at (suc size) (suc i) = zero-at size i
-
--- What is cleared is zero at every place.
-pub all-zero : (size : ℕ) {words : List ℕ} → words ≡ replicate size 0 → (i : ℕ) → get_or words i 0 ≡ 0
-all-zero size cleared i = rw cleared (zero-at size i)
 
 -- What was made is told: the names were not found to be hard, and so many bytes are used.
 pub told :

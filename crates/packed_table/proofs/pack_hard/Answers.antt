@@ -2,7 +2,8 @@
 use mathlib.Core.Path.{refl}
 use native.Mathlib.Omega.{arith}
 use lib.ListN.{length, drop}
-use Rattle.packed_table.proofs.Going.{few_bytes, still-enough, all-zero, told}
+use Rattle.dictionary.proofs.Clearing.{filled}
+use Rattle.packed_table.proofs.Going.{few_bytes, still-enough, told}
 use Rattle.packed_table.proofs.pack_hard.Goals as goal
 
 pub harden-requires : goal.harden-requires
@@ -17,7 +18,7 @@ pack_rows-fits-requires c =
       record {
         enough = still-enough c.fill.auto.self c.fill-2.auto.self c.copy_words.auto.table c.requires.enough;
         hashes = rw c.tables_of.ensures c.harden.ensures.dictionary.entries.tables;
-        blank = record { unused = all-zero _ (c.fill.ensures.after (λ y e. e)); unmarked = all-zero _ (c.fill-2.ensures.after (λ y e. e)) };
+        blank = record { unused = filled _ (c.fill.ensures.after (λ y e. e)); unmarked = filled _ (c.fill-2.ensures.after (λ y e. e)) };
         noted = p.2;
         copied = c.copy_words.ensures;
       },
