@@ -27,10 +27,10 @@ pub const NOTES: usize = notes::NOTES * rules::MOST_ROWS;
 pub fn check(table: &[u32], pool: &[u8]) -> Result<(), Refusal>
     ensures { result ≡ checked table.now pool.now }
 {
-    if rows::row_count(table) <= table_size::FEW_ROWS {
-        return check_in::<SMALL_DICTIONARY, SMALL_NOTES>(table, pool);
+    if table_size::has_many_rows(table) {
+        return check_in::<DICTIONARY, NOTES>(table, pool);
     }
-    check_in::<DICTIONARY, NOTES>(table, pool)
+    check_in::<SMALL_DICTIONARY, SMALL_NOTES>(table, pool)
 }
 
 // The check, which leaves the numbers of the names in the notes of the rows, and what they stand for in

@@ -1,11 +1,12 @@
 -- Equality of byte strings goes byte by byte.
 -- Assumes nothing.
-use Prim.Native.Nat.{ℕ, zero, suc, ◌+◌, ◌-◌, ◌≤◌}
+use Prim.Native.Nat.{ℕ, zero, suc, ◌+◌, ◌-◌, ◌≤◌, ◌<◌}
 use mathlib.Core.Path.{◌≡◌, refl, sym, ap, ◌∙◌}
 use mathlib.Core.Bool.{true, false, ◌&&◌, and_assoc, and-true}
 use mathlib.Core.List.{List}
 use native.Mathlib.Numerals.{add-one}
 use native.Mathlib.Omega.{arith}
+use borrow.Author.Tests.{eq-eqb}
 use lib.Dec.{eqb}
 use lib.ListN.{length, get_or, take, drop, drop_of_length-le}
 use lib.Seq.{drop-cons, drop-drop}
@@ -38,6 +39,11 @@ module _ (a b : List ℕ) where
         level = from.level;
         behind = sym (end-then-front (drop (i - n) a) (drop (i - n) b) n) ∙ true-both rest group;
       }
+
+  pub equal-byte : (i : ℕ) → 0 < i → EqualFrom a b i → get_or a (i - 1) 0 ≡ get_or b (i - 1) 0 → EqualFrom a b (i - 1)
+  equal-byte i h from byte =
+      equal-group 1 i h from
+      (rw (drop-cons a (i - 1) 0 (omega arith), drop-cons b (i - 1) 0 (omega arith), and-true) (eq-eqb (get_or a (i - 1) 0) (get_or b (i - 1) 0) byte))
 
   pub equal-whole : (i : ℕ) → i ≤ 0 → EqualFrom a b i → true ≡ same_bytes a b
   equal-whole zero h from = sym from.behind

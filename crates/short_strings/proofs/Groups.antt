@@ -4,11 +4,11 @@ use Rattle.std.proofs.Common.{◌≡◌, ℕ, zero, suc, ◌+◌, ◌*◌, List,
 use Rattle.std.specs.List.{push}
 use Rattle.std.specs.Cmp.Lexicographic.{pointwise, same_text, other_text}
 use Rattle.std.specs.Simd.{first_chunks}
-use Rattle.std.proofs.Math.Seq.{drop-drop}
+use Rattle.std.proofs.Math.Seq.{take-take, drop-drop}
 use Rattle.std.proofs.lemmas.List.{length-append, length-drop}
 use Rattle.rules.specs.Lists.{same_bytes}
 use Rattle.rules.specs.Table.{part}
-use Rattle.rules.proofs.Lists.{not-true, not-false, equal-same_bytes, same_bytes-equal}
+use Rattle.rules.proofs.Lists.{not-true, not-false, true-not-false, equal-same_bytes, same_bytes-equal}
 use Rattle.short_strings.proofs.Bytes.{EqualFrom, equal-end, equal-whole, group-before}
 use Rattle.short_strings.proofs.Order.{end-then-front}
 
@@ -82,6 +82,18 @@ module _ (n : ℕ) (a b : List ℕ) (xs ys : List (List ℕ)) where
         let one = last-group n a xs x left.first in
         let two = last-group n b ys y left.second in
         h (one.1 ∙ ap (λ l. part l (n * length xs) n) e ∙ rw level_of (sym two.1))
+
+    -- The same where all n bytes of both groups are compared.
+    pub next-compared : same_bytes (part x 0 n) (part y 0 n) ≡ true → Left n a b xs ys
+    next-compared t =
+        let one = (last-group n a xs x left.first).1 in
+        let two = (last-group n b ys y left.second).1 in
+        let first : part x 0 n ≡ x = ap (λ l. part l 0 n) one ∙ take-take n n (drop (n * length xs) a) (omega arith) ∙ sym one in
+        let second : part y 0 n ≡ y = ap (λ l. part l 0 n) two ∙ take-take n n (drop (n * length ys) b) (omega arith) ∙ sym two in
+        next-left (sym first ∙ same_bytes-equal (part x 0 n) (part y 0 n) t ∙ second)
+
+    pub other-compared : same_bytes (part x 0 n) (part y 0 n) ≡ false → a ≡ b → ⊥
+    other-compared f = other-left (λ e. true-not-false (equal-same_bytes (ap (λ l. part l 0 n) e)) f)
 
 -- Two strings of one length whose fronts end where the groups begin.
 pub groups-left :

@@ -19,7 +19,7 @@ pub fn same_short(a: &[u8], b: &[u8]) -> bool
         return false;
     }
     for (a_four, b_four) in a_fours.iter().rev().zip(b_fours.iter().rev()) {
-        if a_four != b_four {
+        if !same_four(a_four, b_four, 0) {
             return false;
         }
     }

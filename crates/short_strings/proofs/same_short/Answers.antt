@@ -1,7 +1,7 @@
 use Rattle.std.proofs.Common.{◌≡◌, ◌*◌, ◌/◌, length, drop, ap, sym, ◌∙◌, arith}
 use Rattle.rules.proofs.Lists.{equal-same_bytes}
 use Rattle.short_strings.proofs.Bytes.{differ}
-use Rattle.short_strings.proofs.Groups.{all-left, next-left, other-left, told-same, told-other}
+use Rattle.short_strings.proofs.Groups.{all-left, next-compared, other-compared, told-same, told-other}
 use Rattle.short_strings.proofs.same_short.Goals as goal
 
 pub returns-then-a-b : goal.returns-then-a-b
@@ -27,13 +27,13 @@ loop-a_four-init c =
       behind = equal-same_bytes (sym c.as_chunks.ensures.back ∙ same ∙ c.as_chunks-2.ensures.back ∙ sym level);
     })
 
-pub returns-then-ne-2 : goal.returns-then-ne-2
-returns-then-ne-2 c =
+pub returns-then-not-same_four : goal.returns-then-not-same_four
+returns-then-not-same_four c =
     let step = c.in-Some.ensures.steps in
     differ c.args.a.now c.args.b.now (λ l. l)
-    (other-left 4 _ _ _ _ _ _ (rw (step.0, step.1) at c.loop-a_four.invariant) (told-other _ _ c.ne-in-loop-a_four.ensures c.if-ne-2.true))
+    (other-compared 4 _ _ _ _ _ _ (rw (step.0, step.1) at c.loop-a_four.invariant) (sym c.same_four.ensures ∙ c.if-not-same_four.true))
 
 pub loop-a_four-preserved : goal.loop-a_four-preserved
 loop-a_four-preserved c =
     let step = c.in-Some.ensures.steps in
-    next-left 4 _ _ _ _ _ _ (rw (step.0, step.1) at c.loop-a_four.invariant) (told-same _ _ c.ne-in-loop-a_four.ensures c.if-ne-2.false)
+    next-compared 4 _ _ _ _ _ _ (rw (step.0, step.1) at c.loop-a_four.invariant) (sym c.same_four.ensures ∙ c.if-not-same_four.false)
