@@ -53,9 +53,10 @@ pub fn write_bytes(out: &mut [u8], at: usize, bytes: &[u8]) -> usize
     ensures value { result ≡ at + length bytes.now }
     ensures out_after { out.new ≡ written out.old at bytes.now }
 {
-    let end = at + bytes.len();
-    out[at..end].copy_from_slice(bytes);
-    end
+    for i in 0..bytes.len() {
+        out[at + i] = bytes[i];
+    }
+    at + bytes.len()
 }
 
 // Writes bytes to an output from a place on, if they fit; answers where they end, or a place past the output's end.
@@ -78,5 +79,7 @@ pub fn write_rows(table: &mut [u32], row: Row, words: &[u32])
     ensures { table.new ≡ written table.old (WIDTH * row.0) words.now }
 {
     let start = rules::WIDTH * row.0 as usize;
-    table[start..start + words.len()].copy_from_slice(words);
+    for i in 0..words.len() {
+        table[start + i] = words[i];
+    }
 }

@@ -8,6 +8,7 @@ ghost use Rattle.salvaged_bundle.specs.Kept.{Kept, SomeKept};
 use rules::{Refusal, Rescued, Salvaged};
 
 // Writes what was kept as a bundle with the whole pool, or refuses as salvage did, or with 33, and clears the list then too.
+#[inline(always)]
 pub fn finish(
     salvaged: Result<Salvaged, Refusal>,
     kept: &[u32],

@@ -1,0 +1,19 @@
+use Prim.Native.Nat.{◌*◌}
+use mathlib.Core.Path.{refl}
+use native.Mathlib.Omega.{arith}
+use lib.ListN.{length-set}
+use lib.Seq.{paste-zero}
+use Rattle.rules.specs.Table.{WIDTH}
+use Rattle.buffers.proofs.Writes.{write_step, write-end}
+use Rattle.buffers.proofs.write_rows.Goals as goal
+
+pub loop-i-init : goal.loop-i-init
+loop-i-init c = (refl, paste-zero c.args.table.now (WIDTH * c.args.row.0) c.args.words.now)
+
+pub loop-i-preserved : goal.loop-i-preserved
+loop-i-preserved c =
+    (simp length-set c.loop-i.invariant.0, write_step c.args.table.now c.loop-i.table (WIDTH * c.args.row.0) c.args.words.now c.loop-i.i c.loop-i.invariant.1 (omega arith) c.loop-i-test.true)
+
+pub returns : goal.returns
+returns c =
+    write-end c.args.table.now c.loop-i.table (WIDTH * c.args.row.0) c.args.words.now c.loop-i.i c.loop-i.invariant.1 c.loop-i.auto.i-end c.loop-i-test.false
