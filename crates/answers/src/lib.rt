@@ -6,7 +6,8 @@ ghost use Rattle.rules.specs.Answers.{not_refused, no_place};
 ghost use Rattle.refusal_numbers.specs.Given.{number_given, refusal_given};
 ghost use Rattle.answers.specs.Given.{located_given, bound_given};
 
-use refusal_numbers::{NOT_REFUSED, Number};
+use refusal_numbers::NOT_REFUSED;
+pub use refusal_numbers::Number;
 use rules::{Bound, Offset, Place, Refusal};
 
 // What a lookup found, and where. The place is 0, 0 for nothing, for a built-in and for a refusal.
@@ -40,7 +41,7 @@ impl From<Result<Option<Place>, Refusal>> for Found {
         match answer {
             Ok(Some(place)) => Found::new(NOT_REFUSED, PLACE, place),
             Ok(None) => Found::nothing(),
-            Err(refusal) => Found::refused(refusal),
+            Err(refusal) => Found::refused(refusal), // place 0, 0
         }
     }
 }
@@ -54,7 +55,7 @@ impl From<Result<Option<Bound>, Refusal>> for Found {
             Ok(Some(Bound::At(place))) => Found::new(NOT_REFUSED, PLACE, place),
             Ok(Some(Bound::Xml)) => Found::new(NOT_REFUSED, BUILT_IN_XML, NO_PLACE),
             Ok(Some(Bound::Xmlns)) => Found::new(NOT_REFUSED, BUILT_IN_XMLNS, NO_PLACE),
-            Ok(None) => Found::nothing(),
+            Ok(None) => Found::nothing(), // no built-in
             Err(refusal) => Found::refused(refusal),
         }
     }

@@ -30,7 +30,7 @@ unfolding row_of
 row-of r = rw (ne_eqb (r + 1) 0 (λ e. omega arith)) (omega arith)
 
 -- Nothing is linked at the end.
-linked-none : (table notes : List ℕ) (n : ℕ) → ((e : ℕ) → e < n → note_at notes e FIRST ≡ 0) → LinkedFrom table notes n n
+pub linked-none : (table notes : List ℕ) (n : ℕ) → ((e : ℕ) → e < n → note_at notes e FIRST ≡ 0) → LinkedFrom table notes n n
 unfolding row_of
 linked-none table notes n none? =
     record {

@@ -74,7 +74,7 @@ module _ {table fates out₀ out numbers : List ℕ} {kept r : ℕ} (s : Sorted 
   abbrev noted : List ℕ
   noted = set numbers r kept
 
-  noted-array : length noted ≡ MOST_ROWS
+  pub noted-array : length noted ≡ MOST_ROWS
   noted-array = length-set numbers r kept ∙ g.array
 
   noted-before : (q : ℕ) → q < r + 1 → get_or noted q 0 ≡ kept_count fates q
@@ -106,8 +106,8 @@ module _ {table fates out₀ out numbers : List ℕ} {kept r : ℕ} (s : Sorted 
       let all : length (kept_words table fates (r + 1)) ≤ length (kept_words table fates (row_count table)) = rw last at (grown table fates (r + 1) (row_count table - (r + 1))) in
       omega (arith, all, kept-long k, room, g.size, e)
 
-  pub going-few : kept ≤ r
-  going-few = omega (arith, count-few table fates r, g.count)
+  pub going-few : (kept ≤ r) × (r < MOST_ROWS)
+  going-few = (omega (arith, count-few table fates r, g.count), omega (arith, s.few))
 
   -- It is written behind what is there, or left out.
   placed : eqb (get_or fates r 0) 0 ≡ true → written out (WIDTH * kept) (row_words table r (renumbered noted (word table r PARENT))) ≡ written out₀ 0 (kept_words table fates (r + 1))

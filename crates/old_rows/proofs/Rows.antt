@@ -95,7 +95,7 @@ rest_back t row a h rest e =
     ∙ ap (λ (l : List ℕ). take a t ++ l) (append-nil rest ∙ e ∙ ap (λ (l : List ℕ). written l 0 row) (take_all (length t - a) (drop a t) (omega arith)) ∙ written-from-start (drop a t) row ∙ ap (λ (l : List ℕ). row ++ l) (drop-drop (length row) a t))
     ∙ sym (append_assoc (take a t) row (drop (a + length row) t))
 
-rows-kept : (t bytes : List ℕ) (rows : ℕ) → WIDTH * rows ≤ length t → length (written t 0 (rows_from rows bytes)) ≡ length t
+pub rows-kept : (t bytes : List ℕ) (rows : ℕ) → WIDTH * rows ≤ length t → length (written t 0 (rows_from rows bytes)) ≡ length t
 rows-kept t bytes rows room = let long = length-rows rows bytes in length-written t 0 (rows_from rows bytes) (omega arith)
 
 -- No row is read yet; and a turn of the loop that reads rows.

@@ -10,7 +10,7 @@ pub write_row-kept-requires-clause-row_bound : goal.write_row-kept-requires-clau
 write_row-kept-requires-clause-row_bound c =
     let inside : c.loop-r.r < row_count c.args.table.now = omega arith in
     let few = going-few c.requires.sorted c.requires.table_in_bounds c.loop-r.invariant inside in
-    (inside, omega arith, few, omega arith)
+    (inside, omega arith, few.0, omega arith)
 
 pub write_row-kept-requires-clause-kept_in_bounds : goal.write_row-kept-requires-clause-kept_in_bounds
 write_row-kept-requires-clause-kept_in_bounds c =
