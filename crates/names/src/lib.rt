@@ -23,21 +23,25 @@ pub fn same(a: &[u8], b: &[u8]) -> bool
     if a.len() < SOME {
         return short_strings::same_short(a, b);
     }
-    let (a_front, a_many) = a.as_rchunks::<MANY>();
-    let (b_front, b_many) = b.as_rchunks::<MANY>();
-    for (a_group, b_group) in a_many.iter().rev().zip(b_many.iter().rev()) {
+    let mut a_left = a;
+    let mut b_left = b;
+    while let Some((a_front, a_group)) = a_left.split_last_chunk::<MANY>() {
+        let (b_front, b_group) = b_left.split_at(a_front.len());
         if !same_all(a_group, b_group) {
             return false;
         }
+        a_left = a_front;
+        b_left = b_front;
     }
-    let (a_rest, a_some) = a_front.as_rchunks::<SOME>();
-    let (b_rest, b_some) = b_front.as_rchunks::<SOME>();
-    for (a_part, b_part) in a_some.iter().rev().zip(b_some.iter().rev()) {
-        if !same_all(a_part, b_part) {
+    while let Some((a_front, a_group)) = a_left.split_last_chunk::<SOME>() {
+        let (b_front, b_group) = b_left.split_at(a_front.len());
+        if !same_all(a_group, b_group) {
             return false;
         }
+        a_left = a_front;
+        b_left = b_front;
     }
-    short_strings::same_short(a_rest, b_rest)
+    short_strings::same_short(a_left, b_left)
 }
 
 // Two byte strings of one length are equal. No byte ends the loop, so that the compiler can take many at once.
